@@ -1,0 +1,2 @@
+pub mod Particle
+pub use Rattle.pf_geom.specs.Position
