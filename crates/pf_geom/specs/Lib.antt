@@ -1,1 +1,6 @@
 pub mod Position
+pub mod Bounds
+pub mod Key
+pub mod Octant
+pub mod Gap
+pub mod Laws

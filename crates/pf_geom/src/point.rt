@@ -3,6 +3,12 @@ ghost use Rattle.pf_geom.specs.Position.{Position, IsInCube};
 
 use std::marker::Model;
 
+// A coordinate is a number of this many bits.
+pub(crate) const COORDINATE_BITS: u32 = 30;
+
+// The side of the cube.
+pub(crate) const CUBE_SIDE: u32 = 1 << COORDINATE_BITS;
+
 /// A position in the cube: each coordinate is below 2^30.
 #[derive(Clone, Copy, Debug, PartialEq, Eq, Hash)]
 pub struct Point {
@@ -28,8 +34,7 @@ pub fn point_at(x: u32, y: u32, z: u32) -> Option<Point>
     ensures inside { IsInCube x y z → IsSome result }
     ensures value { IfSome result (λ p. IsInCube x y z × (p ≡ record { x = x; y = y; z = z })) }
 {
-    const SIDE: u32 = 1 << 30;
-    if x < SIDE && y < SIDE && z < SIDE {
+    if x < CUBE_SIDE && y < CUBE_SIDE && z < CUBE_SIDE {
         Some(Point { x, y, z })
     } else {
         None

@@ -1,0 +1,87 @@
+ghost use Rattle.std.specs.Prelude.{◌≡◌, ◌≤◌, ◌↔◌, IsTrue};
+ghost use Rattle.pf_geom.specs.Octant.{side_at, cell_at, IsIn, corner_of, IsCornerOf, closed_box};
+
+use crate::box3::Box3;
+use crate::key::{gather, key_of};
+use crate::point::{COORDINATE_BITS, Point};
+use std::marker::Model;
+
+/// A cell of the octree over the cube: one of the 8^level cubes of side 2^(30 - level) of its level,
+/// from 0 to 30. The key is that of any point in it, shifted right by 3(30 - level) bits. Cells are
+/// ordered by level, then by key.
+#[derive(Clone, Copy, Debug, PartialEq, Eq, Hash, PartialOrd, Ord)]
+pub struct Cell {
+    pub level: u32,
+    pub key: u128,
+}
+
+impl Model for Cell {
+    ghost use Rattle.pf_geom.specs.Octant.{Octant, IsOctant};
+
+    ghost Value = { Octant };
+
+    ghost view = { λ c. record { level = c.level; key = c.key } };
+
+    ghost invariant = { λ c. IsOctant c.level c.key };
+
+    ghost inverse = { λ c. record { level = c.level; key = c.key } };
+}
+
+/// The cell of a point at a level.
+pub fn cell_of(p: Point, level: u32) -> Cell
+    requires { level ≤ 30 }
+    ensures { result ≡ cell_at p level }
+{
+    Cell {
+        level,
+        key: key_of(p) >> (3 * (COORDINATE_BITS - level)),
+    }
+}
+
+/// The point of a cell whose coordinates are the least.
+pub fn corner(c: Cell) -> Point
+    ensures value { result ≡ corner_of c }
+    ensures in_cell { IsCornerOf c result }
+{
+    let side = side_of(c.level);
+    Point {
+        x: side * gather(c.key >> 2, c.level),
+        y: side * gather(c.key >> 1, c.level),
+        z: side * gather(c.key, c.level),
+    }
+}
+
+/// The side of a cell: how many coordinates it has along each axis.
+pub fn side(c: Cell) -> u32
+    ensures { result ≡ side_at c.level }
+{
+    side_of(c.level)
+}
+
+fn side_of(level: u32) -> u32
+    requires { level ≤ 30 }
+    ensures { result ≡ side_at level }
+{
+    1 << (COORDINATE_BITS - level)
+}
+
+/// Whether a point lies in a cell.
+pub fn contains(c: Cell, p: Point) -> bool
+    ensures { IsTrue result ↔ IsIn p c }
+{
+    cell_of(p, c.level) == c
+}
+
+// The box of all points of a cell.
+pub(crate) fn box_of(c: Cell) -> Box3
+    ensures { result ≡ closed_box c }
+{
+    let lo = corner(c);
+    let reach = side_of(c.level) - 1;
+    let hi = Point {
+        x: lo.x + reach,
+        y: lo.y + reach,
+        z: lo.z + reach,
+    };
+    Box3 { lo, hi }
+}
