@@ -1,4 +1,4 @@
-ghost use Rattle.std.specs.Prelude.{◌≡◌};
+ghost use Rattle.std.specs.Prelude.{Some, codes};
 
 use std::alloc::{AllocError, AllocFailed};
 use std::error::Error;
@@ -9,6 +9,8 @@ use std::fmt;
 pub struct OutOfMemory;
 
 impl fmt::Display for OutOfMemory {
+    ghost output = { λ _. Some (codes "out of memory") };
+
     fn fmt<W: fmt::Write>(&self, f: &mut fmt::Formatter<W>) -> fmt::Result {
         f.write_str("out of memory")
     }
@@ -25,5 +27,23 @@ impl From<AllocError> for OutOfMemory {
 impl<T: Drop> From<AllocFailed<T>> for OutOfMemory {
     fn from(_error: AllocFailed<T>) -> Self {
         OutOfMemory
+    }
+}
+
+#[cfg(test)]
+mod tests {
+    use super::*;
+    use std::alloc::Global;
+
+    fn three_numbers(alloc: Global) -> Result<usize, OutOfMemory> {
+        let mut numbers = Vec::new(alloc);
+        numbers.push(1)?;
+        numbers.extend_from_slice(&[2, 3])?;
+        Ok(numbers.len())
+    }
+
+    #[test]
+    fn errors_of_growth_convert(rt: HostRuntime) {
+        assert_eq!(rt; three_numbers(rt.alloc()), Ok(3));
     }
 }

@@ -1,0 +1,6 @@
+pub mod ExactLemmas
+pub mod HalvesLemmas
+pub mod QuotientLemmas
+pub mod ScaleLemmas
+pub mod SquareRootLemmas
+pub mod WideLemmas
