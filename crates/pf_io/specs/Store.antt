@@ -55,6 +55,10 @@ after_write bytes t = record t { files = files_after_write bytes t.sink t.files;
 abbrev pub after_say : List ℕ → Told → Told
 after_say text t = record t { said = t.said ++ text }
 
+-- no method has failed
+abbrev pub no_faults : Faults
+no_faults = record { opens = 0; reads = 0; creates = 0; writes = 0; says = 0 }
+
 -- the counts after one more fault of a method
 abbrev pub one_more_open : Faults → Faults
 one_more_open f = record f { opens = f.opens + 1 }

@@ -2,6 +2,20 @@
 // written to them. It stands on pf_num alone.
 #![tactic(auto)]
 
+mod decimal;
+mod fault_counts;
+mod file_store;
+mod gate;
+mod mem_store;
 mod store;
+mod transfer;
 
+pub use decimal::push_decimal;
+pub use file_store::FileStore;
+pub use gate::{Gate, Open, Phase};
+pub use mem_store::{MemFile, MemStore};
 pub use store::{Store, StoreErr};
+pub use transfer::{ReadFault, WriteFault, read_all, write_all};
+
+#[cfg(test)]
+mod tests;

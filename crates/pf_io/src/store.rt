@@ -112,4 +112,7 @@ pub trait Store {
 
     // The sink's name is told exactly where there is a sink.
     ghost names_its_sink: { (s : Self) → IfSome (told s) (λ t. is_some t.sink ≡ has_sink s) };
+
+    // The sink is one of the files.
+    ghost has_its_sink: { (s : Self) → IfSome (told s) (λ t. IfSome t.sink (λ name. IsSome (t.files name))) };
 }

@@ -1,0 +1,4 @@
+pub mod FailingCalls
+pub mod FilesByName
+pub mod ReadParts
+pub mod WrittenParts
