@@ -1,0 +1,10 @@
+pub mod Decimals
+pub mod Digits
+pub mod FirstBytes
+pub mod RunLemmas
+pub mod PieceLists
+pub mod OneReading
+pub mod StoppingLemmas
+pub mod TokenPlaces
+pub mod SomeReading
+pub mod Tables
