@@ -1,2 +1,9 @@
 pub mod Particle
+pub mod Criterion
+pub mod Division
+pub mod Totals
+pub mod Laws
 pub use Rattle.pf_geom.specs.Position
+pub use Rattle.pf_geom.specs.Bounds
+pub use Rattle.pf_geom.specs.Octant
+pub use Rattle.pf_geom.specs.Gap

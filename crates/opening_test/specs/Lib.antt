@@ -1,0 +1,3 @@
+pub use Rattle.pf_geom.specs.Bounds
+pub use Rattle.pf_geom.specs.Octant
+pub use Rattle.pf_model.specs.Criterion

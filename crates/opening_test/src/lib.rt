@@ -1,0 +1,10 @@
+// The opening test: whether a cell is far enough from a box to stand for the particles in it.
+// It stands on pf_model and pf_geom.
+#![tactic(auto)]
+
+mod test;
+
+pub use test::passes;
+
+#[cfg(test)]
+mod tests;

@@ -1,0 +1,23 @@
+-- How the cube is divided among ranks.
+use Rattle.std.specs.Prelude.{ℕ, ◌*◌, ◌≤◌}
+
+-- how many slabs of x there are, columns of y in each, and boxes of z in each column
+pub record Division : Type 0 where
+  pub nx : ℕ
+  pub ny : ℕ
+  pub nz : ℕ
+
+-- there are 1 to 64 ranks
+pub record IsGrid (nx ny nz : ℕ) : Type 0 where
+  pub some_x : 1 ≤ nx
+  pub some_y : 1 ≤ ny
+  pub some_z : 1 ≤ nz
+  pub few : nx * ny * nz ≤ 64
+
+-- a division that a `Grid` can be
+abbrev pub IsDivision : Division → Type 0
+IsDivision g = IsGrid g.nx g.ny g.nz
+
+-- one rank for each box
+abbrev pub rank_count : Division → ℕ
+rank_count g = g.nx * g.ny * g.nz
