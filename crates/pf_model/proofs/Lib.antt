@@ -1,1 +1,9 @@
 mod CriterionLemmas
+mod OrderLemmas
+mod EntryLemmas
+mod LeastLemmas
+mod ListLemmas
+mod LevelLemmas
+mod MomentLemmas
+mod GroupLemmas
+mod OrderlessSums

@@ -1,3 +1,7 @@
+ghost use Rattle.std.specs.Prelude.{◌≡◌, ◌+◌, ◌^◌, ◌≤◌, [], ◌∷◌, unsigned_abs, All};
+ghost use Rattle.pf_model.specs.Sums.{moment_of, together, pairwise_sums};
+
+use crate::body::Body;
 use std::marker::Model;
 
 /// The sums over some particles, at most 65,536, within the limits that follow from theirs.
@@ -22,4 +26,62 @@ impl Model for Moment {
     ghost invariant = { λ m. IsMomentOf m.count m.mass m.weighted m.attr };
 
     ghost inverse = { λ m. record { count = m.count; mass = m.mass; weighted = m.weighted; attr = m.attr } };
+}
+
+impl Moment {
+    /// The moment of no particles.
+    pub fn none() -> Moment
+        ensures { result ≡ moment_of [] }
+    {
+        Moment {
+            count: 0,
+            mass: 0,
+            weighted: [0; 3],
+            attr: [0; 8],
+        }
+    }
+
+    /// The moment of one particle.
+    pub fn of_one(body: &Body) -> Moment
+        ensures { result ≡ moment_of (body.now ∷ []) }
+    {
+        let mass = u128::from(body.mass);
+        Moment {
+            count: 1,
+            mass: u64::from(body.mass),
+            weighted: [
+                mass * u128::from(body.at.x),
+                mass * u128::from(body.at.y),
+                mass * u128::from(body.at.z),
+            ],
+            attr: body.attr,
+        }
+    }
+
+    /// The moment of some particles and others, from those of both.
+    pub fn merge(self, other: Moment) -> Moment
+        requires { self.count + other.count ≤ 65536 }
+        ensures { result ≡ together self other }
+    {
+        let (w, v) = (self.weighted, other.weighted);
+        Moment {
+            count: self.count + other.count,
+            mass: self.mass + other.mass,
+            weighted: [w[0] + v[0], w[1] + v[1], w[2] + v[2]],
+            attr: attribute_sums(self.attr, other.attr),
+        }
+    }
+}
+
+// The sums of the attributes, each with its own.
+fn attribute_sums(a: [i64; 8], b: [i64; 8]) -> [i64; 8]
+    requires a_fits { All (λ n. unsigned_abs n ≤ 2 ^ 56) a }
+    requires b_fits { All (λ n. unsigned_abs n ≤ 2 ^ 56) b }
+    ensures { result ≡ pairwise_sums a b }
+{
+    let mut sums = a;
+    for k in 0..8 {
+        sums[k] = a[k] + b[k];
+    }
+    sums
 }

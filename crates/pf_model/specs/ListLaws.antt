@@ -1,0 +1,42 @@
+-- Laws of interaction lists.
+use Rattle.std.specs.Prelude.{◌≡◌, ℕ, ◌<◌, ◌≤◌, ◌↔◌, List, length, Some, None, IsTrue, Contains, AllPairs, slice_index_or}
+use Rattle.pf_geom.specs.Position.{Position}
+use Rattle.pf_geom.specs.Bounds.{Bounds}
+use Rattle.pf_geom.specs.Octant.{cell_at}
+use Rattle.pf_model.specs.declared.entry.Entry.{Entry}
+use Rattle.pf_model.specs.Particle.{Particle}
+use Rattle.pf_model.specs.Particles.{HaveDistinctIds}
+use Rattle.pf_model.specs.Criterion.{Criterion, Passes}
+use Rattle.pf_model.specs.Interaction.{level_of, entry_of, comes_before, list_of, members_of}
+
+-- the position's cell passes at this level, and at no lower one
+pub record IsFirstPassing (t : Criterion) (box : Bounds) (p : Position) (level : ℕ) : Type 0 where
+  pub within : level ≤ 30
+  pub passes : Passes t box (cell_at p level)
+  pub lowest : (lower : ℕ) → lower < level → Passes t box (cell_at p lower) → ⊥
+
+-- none of the position's cells passes
+abbrev pub NonePasses : Criterion → Bounds → Position → Type 0
+NonePasses t box p = (level : ℕ) → level ≤ 30 → Passes t box (cell_at p level) → ⊥
+
+-- the level of a position is the least at which its cell passes
+abbrev pub LevelsAreLeast : Type 0
+LevelsAreLeast =
+    (t : Criterion) (box : Bounds) (p : Position) → ((level_of t box p ≡ None) ↔ NonePasses t box p) × ((level : ℕ) → (level_of t box p ≡ Some level) ↔ IsFirstPassing t box p level)
+
+-- the entries that the particles js lead to, each once, in order
+pub record IsListOf (t : Criterion) (box : Bounds) (js : List Particle) (es : List Entry) : Type 0 where
+  pub ordered : AllPairs (λ e f. IsTrue (comes_before e f)) es
+  pub complete : (j : Particle) → Contains js j → Contains es (entry_of t box js j)
+  pub sound : (e : Entry) → Contains es e → (j : Particle) × Contains js j × (e ≡ entry_of t box js j)
+
+-- the list over particles is the one list of the entries that they lead to, each once, in order
+abbrev pub ListsHoldTheirEntries : Type 0
+ListsHoldTheirEntries =
+    (t : Criterion) (box : Bounds) (js : List Particle) (es : List Entry) → HaveDistinctIds js → IsListOf t box js es ↔ (es ≡ list_of t box js)
+
+-- of the entries of a list over particles, exactly one has the particle as a member
+abbrev pub EachIsInOneEntry : Type 0
+EachIsInOneEntry =
+    (t : Criterion) (box : Bounds) (js : List Particle) (j : Particle) → HaveDistinctIds js → Contains js j →
+    (k : ℕ) × (k < length (list_of t box js)) × ((i : ℕ) (e : Entry) → i < length (list_of t box js) → Contains (members_of t box js (slice_index_or (list_of t box js) i e)) j ↔ (i ≡ k))

@@ -1,0 +1,104 @@
+ghost use Rattle.std.specs.Prelude.{◌≡◌, ◌-◌, ◌*◌, ◌^◌, ◌<◌, ◌≤◌, ◌∷◌, [], map};
+ghost use Rattle.pf_model.specs.Particle.{Particle, IsMass};
+ghost use Rattle.pf_model.specs.Particles.{HaveDistinctIds};
+
+use super::*;
+use pf_geom::{Box3, Cell, Edge, Point};
+use std::test::Fail;
+
+fn body(id: u32, x: u32, mass: u32) -> Body
+    requires in_cube { x < 2 ^ 30 }
+    requires heavy { IsMass mass }
+    ensures { result.id ≡ id }
+{
+    Body {
+        id,
+        at: Point { x, y: 0, z: 0 },
+        vel: [0; 3],
+        mass,
+        attr: [0; 8],
+    }
+}
+
+// Three bodies on the x axis, two of them close together.
+fn two_close_and_one_far() -> [Body; 3]
+    ensures ids { map (λ j. j.id) result ≡ 1 ∷ 2 ∷ 3 ∷ [] }
+    ensures distinct { HaveDistinctIds result }
+{
+    [body(1, 0, 1), body(2, 1048576, 1), body(3, 1048581, 3)]
+}
+
+// The list of the box of one point on the x axis, at the angle 1/1 in an open cube.
+fn list_from(rt: HostRuntime, x: u32) -> Result<Vec<Entry>, Fail>
+    requires { x < 2 ^ 30 }
+{
+    let p = Point { x, y: 0, z: 0 };
+    let theta = Theta {
+        a: 1,
+        b: 1,
+        edge: Edge::Open,
+    };
+    Ok(slow_list(
+        rt.alloc(),
+        &two_close_and_one_far(),
+        Box3 { lo: p, hi: p },
+        theta,
+    )?)
+}
+
+fn moment(count: u32, mass: u64, x: u128) -> Moment
+    requires few { count ≤ 65536 }
+    requires heavy { count ≤ mass }
+    requires light { mass ≤ count * (2 ^ 31 - 1) }
+    requires inside { x ≤ mass * (2 ^ 30 - 1) }
+{
+    Moment {
+        count,
+        mass,
+        weighted: [x, 0, 0],
+        attr: [0; 8],
+    }
+}
+
+#[test]
+fn two_close_bodies_are_one_cell_of_a_far_list(rt: HostRuntime) -> Result<(), Fail> {
+    let cell = Cell { level: 10, key: 4 };
+    let expected = [
+        Entry::Cell(cell, moment(2, 4, 4194319)),
+        Entry::One(body(1, 0, 1)),
+    ];
+    let list = list_from(rt, 0)?;
+    assert_eq!(rt; list.as_slice(), expected.as_slice());
+    Ok(())
+}
+
+#[test]
+fn each_body_of_a_near_list_has_an_entry_of_its_own(rt: HostRuntime) -> Result<(), Fail> {
+    let far = Cell { level: 11, key: 0 };
+    let near = Cell {
+        level: 28,
+        key: (1 << 56) + 4,
+    };
+    let expected = [
+        Entry::Cell(far, moment(1, 1, 0)),
+        Entry::Cell(near, moment(1, 3, 3145743)),
+        Entry::One(body(2, 1048576, 1)),
+    ];
+    let list = list_from(rt, 1048576)?;
+    assert_eq!(rt; list.as_slice(), expected.as_slice());
+    Ok(())
+}
+
+#[test]
+fn a_group_is_the_largest_cell_within_the_limit(rt: HostRuntime) -> Result<(), Fail> {
+    let bodies = two_close_and_one_far();
+    let alone = slow_group(rt.alloc(), &bodies, 1, 3)?;
+    assert_eq!(rt; alone.as_slice(), [3].as_slice());
+    let far = slow_group(rt.alloc(), &bodies, 2, 1)?;
+    assert_eq!(rt; far.as_slice(), [1].as_slice());
+    let close = slow_group(rt.alloc(), &bodies, 2, 3)?;
+    assert_eq!(rt; close.as_slice(), [2, 3].as_slice());
+    let all = slow_group(rt.alloc(), &bodies, 3, 1)?;
+    assert_eq!(rt; all.as_slice(), [1, 2, 3].as_slice());
+    Ok(())
+}
