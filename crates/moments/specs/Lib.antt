@@ -1,0 +1,5 @@
+pub mod Laws
+pub mod Prefix
+pub use Rattle.pf_model.specs.Particle
+pub use Rattle.pf_model.specs.Totals
+pub use Rattle.pf_model.specs.Sums
