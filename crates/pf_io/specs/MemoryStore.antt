@@ -1,8 +1,9 @@
 -- A store in memory, and what it tells.
-use Rattle.std.specs.Prelude.{ℕ, ◌≡◌, ◌^◌, ◌-◌, ◌+◌, ◌&&◌, ◌==◌, List, [], Bool, Option, Some, None, option_map, unwrap_or, option_and_then, nat_le, nat_lt, slice_get, find, position, IsSomeAnd}
+use Rattle.std.specs.Prelude.{ℕ, ◌≡◌, ◌^◌, ◌-◌, ◌+◌, ◌&&◌, ◌==◌, List, [], Bool, Option, Some, None, option_map, unwrap_or, option_and_then, nat_le, nat_lt, slice_get, find, position, IsSomeAnd, if◌then◌else◌, Result}
 use Rattle.std.specs.List.{list_all, list_any}
 use Rattle.std.specs.Str.{bytes_eq}
-use Rattle.pf_io.specs.Store.{Files, Told, Faults, no_faults}
+use Rattle.pf_io.specs.Store.{Files, Told, Faults, no_faults, counted}
+use Rattle.pf_io.specs.declared.store.StoreErr.{StoreErr}
 
 -- a file: its name and its bytes
 pub record NamedBytes : Type 0 where
@@ -54,6 +55,21 @@ is_steady_of s = fails_no_more s.fails s.calls
 -- the next call is to fail by its number, which goes up to the greatest u64
 abbrev pub fails_next : List ℕ → ℕ → Bool
 fails_next fails calls = nat_lt calls (2 ^ 64 - 1) && list_any (λ n. n == calls + 1) fails
+
+abbrev pub fails_by_number : MemoryStore → Bool
+fails_by_number s = fails_next s.fails s.calls
+
+-- the number of calls after one more, which stays at the greatest u64
+abbrev pub next_count : ℕ → ℕ
+next_count calls = if nat_lt calls (2 ^ 64 - 1) then calls + 1 else calls
+
+-- the store, with one more call counted
+abbrev pub one_more_call : MemoryStore → MemoryStore
+one_more_call s = record s { calls = next_count s.calls }
+
+-- the store after a call that gave up: the call is counted, and where it failed its fault too
+abbrev pub after_err : {A : Type 0} → (Faults → Faults) → Result A StoreErr → MemoryStore → MemoryStore
+after_err one_more result s = record (one_more_call s) { faults = counted one_more result s.faults }
 
 -- a store of these files, before any call
 abbrev pub fresh_store : List NamedBytes → List ℕ → ℕ → MemoryStore

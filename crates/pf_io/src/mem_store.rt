@@ -1,7 +1,7 @@
-ghost use Rattle.std.specs.Prelude.{◌≡◌, ◌+◌, ◌-◌, ◌<◌, ◌^◌, ◌++◌, false, Some, [], min, take, drop, length, slice_get, position, is_ok, is_some, option_copied, IsTrue, IfOk, OnOk, OnErr, if◌then◌else◌};
+ghost use Rattle.std.specs.Prelude.{◌≡◌, ◌≢◌, ◌+◌, ◌-◌, ◌<◌, ◌^◌, ◌↔◌, ◌⊎◌, ◌++◌, Err, None, Some, [], min, take, drop, length, slice_get, position, is_ok, is_some, option_map, option_copied, IsTrue, IfOk, OnOk, OnErr, if◌then◌else◌};
 ghost use Rattle.std.specs.Str.{bytes_eq};
-ghost use Rattle.pf_io.specs.Store.{with_contents};
-ghost use Rattle.pf_io.specs.MemoryStore.{contents_of, fails_next, fails_no_more, told_of, sink_of, is_steady_of, fresh_store};
+ghost use Rattle.pf_io.specs.Store.{with_contents, after_create, after_write, one_more_open, one_more_read, one_more_create, one_more_write, one_more_say};
+ghost use Rattle.pf_io.specs.MemoryStore.{contents_of, fails_next, fails_by_number, next_count, one_more_call, after_err, told_of, sink_of, is_steady_of, fresh_store};
 
 use crate::fault_counts::FaultCounts;
 use crate::store::{Store, StoreErr};
@@ -77,7 +77,7 @@ impl Source {
     /// Moves the next bytes into the buffer, at most `most`, and answers how many.
     fn read(&mut self, buf: &mut [u8], most: usize) -> usize
         ensures count { result ≡ min (min (length self.old) (length buf.old)) most }
-        ensures bytes { take result buf.new ≡ take result self.old }
+        ensures bytes { buf.new ≡ take result self.old ++ drop result buf.old }
         ensures rest { self.new ≡ drop result self.old }
     {
         let n = (self.bytes.len() - self.done).min(buf.len()).min(most);
@@ -90,9 +90,7 @@ impl Source {
 /// Counts a call, and says whether it is to fail by its number.
 fn count_call(calls: &mut u64, fails: &[u64]) -> bool
     ensures value { result ≡ fails_next fails.now calls.old }
-    ensures counted { calls.new ≡ min (calls.old + 1) (2 ^ 64 - 1) }
-    ensures steady { IsTrue (fails_no_more fails.now calls.old) → result ≡ false }
-    ensures stays_steady { IsTrue (fails_no_more fails.now calls.old) → IsTrue (fails_no_more fails.now calls.new) }
+    ensures counted { calls.new ≡ next_count calls.old }
 {
     if *calls == u64::MAX {
         return false;
@@ -204,7 +202,14 @@ impl Store for MemStore {
 
     ghost is_steady = { is_steady_of };
 
-    fn open(&mut self, name: &str) -> Result<(), StoreErr> {
+    fn open(&mut self, name: &str) -> Result<(), StoreErr>
+        requires { self.old.faults.opens < 2 ^ 64 - 1 }
+
+        // A call fails exactly by its number or the method's own cause, and gives up otherwise only for want of memory.
+        ensures fails { result ≡ Err StoreErr.Failed ↔ IsTrue (fails_by_number self.old) ⊎ contents_of self.old.files name.now ≡ None }
+        ensures opened { OnOk result (self.new ≡ record (one_more_call self.old) { source = contents_of self.old.files name.now }) }
+        ensures err { OnErr result (self.new ≡ after_err one_more_open result self.old) }
+    {
         let fails = count_call(&mut self.calls, &self.fails);
         let Some(contents) = self.contents(name).filter(|_| !fails) else {
             self.faults.count_open();
@@ -217,7 +222,18 @@ impl Store for MemStore {
         Ok(())
     }
 
-    fn read(&mut self, buf: &mut [u8]) -> Result<usize, StoreErr> {
+    fn read(&mut self, buf: &mut [u8]) -> Result<usize, StoreErr>
+        requires { self.old.faults.reads < 2 ^ 64 - 1 }
+
+        ensures fails { result ≡ Err StoreErr.Failed ↔ IsTrue (fails_by_number self.old) ⊎ self.old.source ≡ None }
+        ensures no_memory { result ≢ Err StoreErr.Memory }
+        ensures count { IfOk result (λ n. n ≡ min (min (length (told_of self.old).unread) (length buf.old)) self.old.most) }
+        ensures end { IfOk result (λ n. n ≡ 0 → 0 < length buf.old → (told_of self.old).unread ≡ []) }
+        ensures bytes { IfOk result (λ n. buf.new ≡ take n (told_of self.old).unread ++ drop n buf.old) }
+        ensures buffer_stays { OnErr result (buf.new ≡ buf.old) }
+        ensures taken { IfOk result (λ n. self.new ≡ record (one_more_call self.old) { source = option_map (drop n) self.old.source }) }
+        ensures err { OnErr result (self.new ≡ after_err one_more_read result self.old) }
+    {
         let fails = count_call(&mut self.calls, &self.fails);
         match &mut self.source {
             Some(source) if !fails => Ok(source.read(buf, self.most)),
@@ -228,7 +244,14 @@ impl Store for MemStore {
         }
     }
 
-    fn create(&mut self, name: &str) -> Result<(), StoreErr> {
+    fn create(&mut self, name: &str) -> Result<(), StoreErr>
+        requires { self.old.faults.creates < 2 ^ 64 - 1 }
+
+        ensures fails { result ≡ Err StoreErr.Failed ↔ IsTrue (fails_by_number self.old) }
+        ensures created { OnOk result (told_of self.new ≡ after_create name.now (told_of self.old)) }
+        ensures rest_stays { OnOk result (self.new ≡ record (one_more_call self.old) { files = self.new.files; sink = self.new.sink }) }
+        ensures err { OnErr result (self.new ≡ after_err one_more_create result self.old) }
+    {
         if count_call(&mut self.calls, &self.fails) {
             self.faults.count_create();
             return Err(StoreErr::Failed);
@@ -240,7 +263,16 @@ impl Store for MemStore {
         Ok(())
     }
 
-    fn write(&mut self, piece: &[u8]) -> Result<usize, StoreErr> {
+    fn write(&mut self, piece: &[u8]) -> Result<usize, StoreErr>
+        requires { self.old.faults.writes < 2 ^ 64 - 1 }
+
+        ensures fails { result ≡ Err StoreErr.Failed ↔ IsTrue (fails_by_number self.old) ⊎ sink_of self.old ≡ None }
+        ensures count { IfOk result (λ n. n ≡ min (length piece.now) self.old.most) }
+        ensures some { IfOk result (λ n. 0 < length piece.now → 0 < n) }
+        ensures written { IfOk result (λ n. told_of self.new ≡ after_write (take n piece.now) (told_of self.old)) }
+        ensures rest_stays { OnOk result (self.new ≡ record (one_more_call self.old) { files = self.new.files }) }
+        ensures err { OnErr result (self.new ≡ after_err one_more_write result self.old) }
+    {
         let fails = count_call(&mut self.calls, &self.fails);
         match self.sink {
             Some(i) if !fails => {
@@ -257,7 +289,13 @@ impl Store for MemStore {
         }
     }
 
-    fn say(&mut self, text: &[u8]) -> Result<(), StoreErr> {
+    fn say(&mut self, text: &[u8]) -> Result<(), StoreErr>
+        requires { self.old.faults.says < 2 ^ 64 - 1 }
+
+        ensures fails { result ≡ Err StoreErr.Failed ↔ IsTrue (fails_by_number self.old) }
+        ensures said { OnOk result (self.new ≡ record (one_more_call self.old) { said = self.old.said ++ text.now }) }
+        ensures err { OnErr result (self.new ≡ after_err one_more_say result self.old) }
+    {
         if count_call(&mut self.calls, &self.fails) {
             self.faults.count_say();
             return Err(StoreErr::Failed);

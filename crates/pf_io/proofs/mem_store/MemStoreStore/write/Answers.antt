@@ -1,4 +1,4 @@
-use Rattle.std.proofs.Common.{◌≡◌, ◌++◌, take, Some, refl, ap}
+use Rattle.std.proofs.Common.{◌≡◌, ◌++◌, take}
 use Rattle.pf_io.specs.contracts.mem_store.MemStore.{the_view}
 use Rattle.pf_io.proofs.mem_store.MemStoreStore.write.Goals as goal
 use Rattle.pf_io.proofs.FilesByName.{IsFirst, file, first_is, first_written, is_first, told_written}
@@ -17,7 +17,4 @@ invariant_of-self-then-not-fails c =
 
 pub returns-else-is_err-clause-written : goal.returns-else-is_err-clause-written
 returns-else-is_err-clause-written c =
-    rw (← c.self.view_is, appended c) (ap Some (told_written (the_view c.self.inside) _ _ _ c.in-Some.is (first c)))
-
-pub returns-else-is_err-clause-sink : goal.returns-else-is_err-clause-sink
-returns-else-is_err-clause-sink c = rw (← c.self.view_is, appended c, c.in-Some.is, (first_written _ _ _ _ (first c)).there, (first c).there) refl
+    rw (← c.self.view_is, appended c) (told_written (the_view c.self.inside) _ _ _ c.in-Some.is (first c))
