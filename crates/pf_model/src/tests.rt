@@ -90,10 +90,37 @@ fn each_body_of_a_near_list_has_an_entry_of_its_own(rt: HostRuntime) -> Result<(
 }
 
 #[test]
+fn a_list_from_the_other_side_has_a_finer_cell(rt: HostRuntime) -> Result<(), Fail> {
+    let far = Cell { level: 11, key: 0 };
+    let near = Cell {
+        level: 29,
+        key: 1 << 59,
+    };
+    let expected = [
+        Entry::Cell(far, moment(1, 1, 0)),
+        Entry::Cell(near, moment(1, 1, 1048576)),
+        Entry::One(body(3, 1048581, 3)),
+    ];
+    let list = list_from(rt, 1048581)?;
+    assert_eq!(rt; list.as_slice(), expected.as_slice());
+    Ok(())
+}
+
+#[test]
+fn a_limit_of_one_leaves_each_body_alone(rt: HostRuntime) -> Result<(), Fail> {
+    let bodies = two_close_and_one_far();
+    let first = slow_group(rt.alloc(), &bodies, 1, 1)?;
+    assert_eq!(rt; first.as_slice(), [1].as_slice());
+    let second = slow_group(rt.alloc(), &bodies, 1, 2)?;
+    assert_eq!(rt; second.as_slice(), [2].as_slice());
+    let third = slow_group(rt.alloc(), &bodies, 1, 3)?;
+    assert_eq!(rt; third.as_slice(), [3].as_slice());
+    Ok(())
+}
+
+#[test]
 fn a_group_is_the_largest_cell_within_the_limit(rt: HostRuntime) -> Result<(), Fail> {
     let bodies = two_close_and_one_far();
-    let alone = slow_group(rt.alloc(), &bodies, 1, 3)?;
-    assert_eq!(rt; alone.as_slice(), [3].as_slice());
     let far = slow_group(rt.alloc(), &bodies, 2, 1)?;
     assert_eq!(rt; far.as_slice(), [1].as_slice());
     let close = slow_group(rt.alloc(), &bodies, 2, 3)?;
