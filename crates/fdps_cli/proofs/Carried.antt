@@ -8,7 +8,7 @@ files_or : Files → Option Told → Files
 files_or d None = d
 files_or d (Some t) = t.files
 
-same_files : (t u : Told) → Some (without_unread u) ≡ Some (without_unread t) → u.files ≡ t.files
+pub same_files : (t u : Told) → Some (without_unread u) ≡ Some (without_unread t) → u.files ≡ t.files
 unfolding files_or
 same_files t u e = ap (files_or t.files) e
 

@@ -7,6 +7,7 @@ use Rattle.std.specs.List.{AllByRecursion, flat_map}
 use Rattle.std.proofs.lemmas.Fmt.{length-decimal-le}
 use Rattle.pf_model.specs.Particle.{Particle, IsVelocity, IsAttribute}
 use Rattle.fdps_cli.specs.Particles.{spaced, fields, particle_line, particles_text, IsPlainParticle, AreFew, AreThinParticles}
+use Rattle.fdps_cli.proofs.ListParts.{all_append}
 
 short_decimal : (n : ℕ) → n < 2 ^ 63 → length (decimal n) ≤ 19
 short_decimal n h = length-decimal-le 19 n (omega arith) (omega arith) (omega arith)
@@ -26,10 +27,6 @@ short_spaced (z ∷ y ∷ zs) h =
     let k = short_number z h.0 in
     let m = short_spaced (y ∷ zs) h.1 in
     omega (arith, length-append (signed_decimal z) (32 ∷ spaced (y ∷ zs)))
-
-all_append : {X : Type 0} (P : X → Type 0) (xs ys : List X) → AllByRecursion P xs → AllByRecursion P ys → AllByRecursion P (xs ++ ys)
-all_append P [] ys h k = k
-all_append P (x ∷ xs) ys h k = (h.0, all_append P xs ys h.1 k)
 
 all_take : {X : Type 0} (P : X → Type 0) (n : ℕ) (xs : List X) → AllByRecursion P xs → AllByRecursion P (take n xs)
 all_take P zero xs h = tt

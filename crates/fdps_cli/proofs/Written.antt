@@ -10,6 +10,7 @@ use Rattle.fdps_cli.specs.Deck.{Deck}
 use Rattle.fdps_cli.specs.Dump.{IsThinDump, BeginsThinDump}
 use Rattle.fdps_cli.specs.Run.{HasInputs, HasFourInputs, IfTold, HasDump, HasFrontOfDump, OthersStay}
 use Rattle.fdps_cli.specs.Steps.{Writes, WritesFront, Leaves, LeavesFiles}
+use Rattle.fdps_cli.proofs.Carried.{same_files}
 use Rattle.fdps_cli.specs.declared.status.Status.{Status}
 use Rattle.fdps_cli.specs.declared.status.Status.TheVariants.{Done, NotBuilt, StoreFault, Memory}
 use Rattle.fdps_cli.specs.declared.status.StoreCall.TheVariants.{Open, Read, Create, Write, Say}
@@ -64,17 +65,9 @@ left_told words out text ps t u later Memory files said found only dump w = elim
       (said, inr (others_stay words out (take f.0 text) t u files ps found, (found.0, ps, found.1), has_written words out (take f.0 text) t u ps BeginsThinDump only (front_of_dump ps text f.0 dump)))
 ]
 
-files_or : Files → Option Told → Files
-files_or d None = d
-files_or d (Some t) = t.files
-
 said_or : List ℕ → Option Told → List ℕ
 said_or d None = d
 said_or d (Some t) = t.said
-
-same_files : (t u : Told) → Some (without_unread u) ≡ Some (without_unread t) → u.files ≡ t.files
-unfolding files_or
-same_files t u e = ap (files_or t.files) e
 
 same_said : (t u : Told) → Some (without_unread u) ≡ Some (without_unread t) → u.said ≡ t.said
 unfolding said_or
