@@ -1,0 +1,14 @@
+use Rattle.std.proofs.Common.{◌≢◌, ℕ, ◌∷◌, [], sym, subst}
+use Rattle.std.specs.List.{IsDistinct}
+use Rattle.std.specs.Prelude.{nat_eq}
+use Rattle.std.proofs.lemmas.Bool.{ne_eqb}
+use Rattle.pf_model.specs.Particles.{HaveDistinctIds}
+use Rattle.morton_tree.proofs.tests.tree_of.Goals as goal
+
+three_differ : (a b c : ℕ) → a ≢ b → a ≢ c → b ≢ c → IsDistinct nat_eq (a ∷ b ∷ c ∷ [])
+unfolding IsDistinct
+three_differ a b c p q r = ((ne_eqb a b p, (ne_eqb a c q, tt)), ((ne_eqb b c r, tt), (tt, tt)))
+
+pub build-requires-clause-distinct : goal.build-requires-clause-distinct
+build-requires-clause-distinct g c = λ _ _.
+    subst HaveDistinctIds (sym c.in_ok-from_array.ensures.items) (three_differ c.args.a.id c.args.b.id c.args.c.id c.requires.a_and_b_differ c.requires.a_and_c_differ c.requires.b_and_c_differ)
