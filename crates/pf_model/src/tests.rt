@@ -28,6 +28,15 @@ fn two_close_and_one_far() -> [Body; 3]
     [body(1, 0, 1), body(2, 1048576, 1), body(3, 1048581, 3)]
 }
 
+// One body alone.
+fn only(id: u32, x: u32) -> [Body; 1]
+    requires { x < 2 ^ 30 }
+    ensures ids { map (λ j. j.id) result ≡ id ∷ [] }
+    ensures distinct { HaveDistinctIds result }
+{
+    [body(id, x, 1)]
+}
+
 // The list of the box of one point on the x axis, at the angle 1/1 in an open cube.
 fn list_from(rt: HostRuntime, x: u32) -> Result<Vec<Entry>, Fail>
     requires { x < 2 ^ 30 }
@@ -103,6 +112,41 @@ fn a_list_from_the_other_side_has_a_finer_cell(rt: HostRuntime) -> Result<(), Fa
     ];
     let list = list_from(rt, 1048581)?;
     assert_eq!(rt; list.as_slice(), expected.as_slice());
+    Ok(())
+}
+
+#[test]
+fn a_periodic_list_sees_the_nearest_image(rt: HostRuntime) -> Result<(), Fail> {
+    let origin = Point { x: 0, y: 0, z: 0 };
+    let theta = Theta {
+        a: 1,
+        b: 1,
+        edge: Edge::Periodic,
+    };
+    let bodies = only(1, 1073741823);
+    let list = slow_list(
+        rt.alloc(),
+        &bodies,
+        Box3 {
+            lo: origin,
+            hi: origin,
+        },
+        theta,
+    )?;
+    let cell = Cell {
+        level: 30,
+        key: 707394308163074442799499556,
+    };
+    let expected = [Entry::Cell(cell, moment(1, 1, 1073741823))];
+    assert_eq!(rt; list.as_slice(), expected.as_slice());
+    Ok(())
+}
+
+#[test]
+fn the_only_body_of_a_rank_is_its_group(rt: HostRuntime) -> Result<(), Fail> {
+    let own = only(2, 1048576);
+    let ids = slow_group(rt.alloc(), &own, 64, 2)?;
+    assert_eq!(rt; ids.as_slice(), [2].as_slice());
     Ok(())
 }
 
