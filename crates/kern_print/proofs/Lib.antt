@@ -1,0 +1,17 @@
+pub mod Alike
+pub mod AlikeStmts
+pub mod Decls
+pub mod ExprForms
+pub mod Held
+pub mod HeldStmts
+pub mod Lines
+pub mod ReadBack
+pub mod Reread
+pub mod RereadStmts
+pub mod Shallow
+pub mod Spelled
+pub mod StmtForms
+pub mod Stops
+pub mod Texts
+pub mod Walk
+pub mod WalkStmts

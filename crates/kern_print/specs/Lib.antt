@@ -1,0 +1,4 @@
+pub mod Canonical
+pub mod Expressions
+pub mod Laws
+pub mod Places
