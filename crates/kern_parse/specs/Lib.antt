@@ -1,0 +1,11 @@
+pub mod Decls
+pub mod Found
+pub mod Leading
+pub mod Operators
+pub mod Reading
+pub mod Required
+pub mod Stmts
+pub use Rattle.kern_tree.specs.FirstFault
+pub use Rattle.kern_tree.specs.Grammar
+pub use Rattle.kern_tree.specs.Nodes
+pub use Rattle.kern_tree.specs.Rules
