@@ -1,0 +1,4 @@
+pub mod CellLemmas
+pub mod OrderLemmas
+pub mod RankLemmas
+pub mod GatherLemmas

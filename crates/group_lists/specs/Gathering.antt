@@ -1,0 +1,50 @@
+-- The lists of a rank's groups, while the particles of other ranks are still to come.
+use Rattle.std.specs.Prelude.{◌≡◌, ℕ, ◌+◌, ◌^◌, ◌<◌, ◌≤◌, List, [], ◌∷◌, length, map, sum_by, All, Contains, IsPermutation}
+use Rattle.pf_model.specs.declared.entry.Entry.{Entry}
+use Rattle.pf_model.specs.Particle.{Particle}
+use Rattle.pf_model.specs.Criterion.{Criterion}
+use Rattle.pf_model.specs.Division.{Division, rank_count}
+use Rattle.pf_model.specs.Domains.{particles_of}
+use Rattle.pf_model.specs.Group.{box_of}
+use Rattle.pf_model.specs.EssentialTree.{limited_list}
+use Rattle.morton_tree.specs.declared.group.Group.{Group}
+use Rattle.morton_tree.specs.Spans.{at_span}
+
+-- a gather as clauses see it: its rank, the particles of this rank, their groups, and the ranks whose
+-- particles were absorbed
+pub record Gathering : Type 0 where
+  pub rank : ℕ
+  pub own : List Particle
+  pub groups : List Group
+  pub absorbed : List ℕ
+
+-- before any rank is absorbed
+abbrev pub own_gathering : ℕ → List Particle → List Group → Gathering
+own_gathering rank own groups = record { rank = rank; own = own; groups = groups; absorbed = [] }
+
+-- the list of a group limited to the own rank and those absorbed
+abbrev pub partial_list : Criterion → Division → List Particle → Gathering → Group → List Entry
+partial_list t g js gather group = limited_list t group.around g js (gather.rank ∷ gather.absorbed)
+
+-- how long these lists are together
+abbrev pub gathered_count : Criterion → Division → List Particle → Gathering → ℕ
+gathered_count t g js gather = sum_by (λ group. length (partial_list t g js gather group)) gather.groups
+
+-- every rank is the own one or was absorbed
+abbrev pub IsWhole : Division → Gathering → Type 0
+IsWhole g gather = (rank : ℕ) → rank < rank_count g → Contains (gather.rank ∷ gather.absorbed) rank
+
+-- a group of these particles: its span lies among them, and its box is the least round those of the span
+pub record IsGroupOf (js : List Particle) (g : Group) : Type 0 where
+  pub inside : g.span.first + g.span.len ≤ length js
+  pub around : g.around ≡ box_of (at_span g.span js)
+
+-- what each gather keeps: its own particles are those of its rank, and it has the number of all entries,
+-- and the lists themselves while they are few; it never stores more entries
+pub record IsGathered (t : Criterion) (g : Division) (js : List Particle) (gather : Gathering) (lists : List (List Entry)) (count : ℕ) : Type 0 where
+  pub own : IsPermutation gather.own (particles_of g js gather.rank)
+  pub few : length gather.groups ≤ 65536
+  pub of_own : All (IsGroupOf gather.own) gather.groups
+  pub counted : count ≡ gathered_count t g js gather
+  pub kept : count ≤ 2 ^ 24 → lists ≡ map (partial_list t g js gather) gather.groups
+  pub bounded : sum_by length lists ≤ 2 ^ 24

@@ -1,0 +1,11 @@
+pub mod Places
+pub mod Gathering
+pub mod Whole
+pub use Rattle.pf_model.specs.Particle
+pub use Rattle.pf_model.specs.Criterion
+pub use Rattle.pf_model.specs.Division
+pub use Rattle.pf_model.specs.Domains
+pub use Rattle.pf_model.specs.Interaction
+pub use Rattle.pf_model.specs.EssentialTree
+pub use Rattle.morton_tree.specs.Tree
+pub use Rattle.morton_tree.specs.Spans

@@ -1,0 +1,150 @@
+ghost use Rattle.std.specs.Prelude.{◌≡◌, ◌^◌, ◌<◌, ◌≤◌, IfOk, All, Contains, IsPermutation, [], length, map, slice_get, Some, sum_by};
+ghost use Rattle.pf_model.specs.Division.{rank_count};
+ghost use Rattle.pf_model.specs.Domains.{particles_of};
+ghost use Rattle.pf_model.specs.Interaction.{list_of};
+ghost use Rattle.morton_tree.specs.Tree.{IsUnmoved};
+ghost use Rattle.morton_tree.specs.Spans.{at_span};
+ghost use Rattle.group_lists.specs.Gathering.{own_gathering, IsGroupOf, IsWhole, partial_list, gathered_count};
+
+use crate::listed::Listed;
+use crate::lists::Lists;
+use crate::scan::list_over;
+use morton_tree::{Group, Tree};
+use pf_model::{Body, Entry, Steps, Terms, Theta, lists_hold_their_entries, lists_ignore_order};
+use pf_num::OutOfMemory;
+use std::alloc::Global;
+use std::marker::{Model, PhantomData};
+use std::sync::ledger::Ledger;
+
+// The most entries that are kept.
+const MOST_ENTRIES: u64 = 1 << 24;
+
+/// The interaction lists of the groups of one rank, over its own particles.
+#[derive(Drop)]
+pub struct Gather<T: Terms> {
+    rank: u32,
+    bodies: Vec<Body>,
+    listed: Vec<Listed>,
+    count: u64,
+    terms: PhantomData<T>,
+}
+
+impl<T: Terms> Model for Gather<T> {
+    ghost use Rattle.std.specs.Prelude.{map};
+    ghost use Rattle.group_lists.specs.Gathering.{Gathering, own_gathering, IsGathered};
+
+    ghost Value = { Gathering };
+
+    ghost view = { λ g. own_gathering g.rank g.bodies.items (map (λ l. l.group) g.listed.items) };
+
+    ghost invariant = { λ g. IsGathered T.theta T.grid T.particles
+        (own_gathering g.rank g.bodies.items (map (λ l. l.group) g.listed.items))
+        (map (λ l. l.entries.items) g.listed.items) g.count };
+}
+
+impl<T: Terms> Gather<T> {
+    /// Begins the lists of groups of a rank's tree, which hasn't moved, with its own bodies. There are at
+    /// most 65,536 groups, each with a span of the tree and the least box round its bodies.
+    pub fn open<L: Ledger>(
+        alloc: Global,
+        rank: u32,
+        ranks: u32,
+        tree: &Tree,
+        groups: &[Group],
+        t: Theta,
+        steps: &mut Steps<L>,
+    ) -> Result<Gather<T>, OutOfMemory>
+        requires unmoved { IsUnmoved tree.now }
+        requires few { length groups.now ≤ 65536 }
+        requires of_tree { All (IsGroupOf tree.now.built) groups.now }
+        requires rank { rank < ranks }
+        requires ranks { rank_count T.grid ≡ ranks }
+        requires own { IsPermutation tree.now.built (particles_of T.grid T.particles rank) }
+        requires theta { t ≡ T.theta }
+        ensures { IfOk result (λ gather. gather ≡ own_gathering rank tree.now.built groups.now) }
+    {
+        lists_ignore_order();
+        let (listed, count) = list_groups(alloc, tree, groups, t, steps)?;
+        let bodies = tree.bodies().to_vec(alloc)?;
+        Ok(Gather {
+            rank,
+            bodies,
+            listed,
+            count,
+            terms: PhantomData,
+        })
+    }
+
+    /// How long the lists are together.
+    pub fn count(&self) -> u64
+        ensures { result ≡ gathered_count T.theta T.grid T.particles self.now }
+    {
+        self.count
+    }
+
+    /// The list of a group over the particles gathered so far, where all lists together have at most
+    /// 2^24 entries: past that they are counted, and not kept.
+    pub fn partial(&self, group: u32) -> &[Entry]
+        requires within { group < length self.now.groups }
+        requires few { gathered_count T.theta T.grid T.particles self.now ≤ 2 ^ 24 }
+        ensures { slice_get (map (partial_list T.theta T.grid T.particles self.now) self.now.groups) group
+            ≡ Some result.now }
+    {
+        &self.listed[group as usize].entries
+    }
+
+    /// The lists, when the particles of all ranks are in and they have at most 2^24 entries together.
+    pub fn finish(self, _alloc: Global) -> Result<Lists, OutOfMemory>
+        requires whole { IsWhole T.grid self }
+        requires few { gathered_count T.theta T.grid T.particles self ≤ 2 ^ 24 }
+        ensures bodies { IfOk result (λ lists. map (λ l. l.bodies) lists
+            ≡ map (λ g. at_span g.span self.own) self.groups) }
+        ensures entries { IfOk result (λ lists. map (λ l. l.entries) lists
+            ≡ map (λ g. list_of T.theta g.around T.particles) self.groups) }
+    {
+        lists_hold_their_entries();
+        Ok(Lists::of(self.bodies, self.listed))
+    }
+}
+
+// The lists of groups over the bodies of a tree, and how long they are together.
+fn list_groups<L: Ledger>(
+    alloc: Global,
+    tree: &Tree,
+    groups: &[Group],
+    t: Theta,
+    steps: &mut Steps<L>,
+) -> Result<(Vec<Listed>, u64), OutOfMemory>
+    requires unmoved { IsUnmoved tree.now }
+    requires few { length groups.now ≤ 65536 }
+    ensures each { IfOk result (λ r. map (λ l. l.group) r.0.items ≡ groups.now) }
+    ensures count { IfOk result (λ r. r.1
+        ≡ sum_by (λ g. length (list_of t g.around tree.now.built)) groups.now) }
+    ensures lists { IfOk result (λ r. r.1 ≤ 2 ^ 24 → map (λ l. l.entries.items) r.0.items
+        ≡ map (λ g. list_of t g.around tree.now.built) groups.now) }
+    ensures bounded { IfOk result (λ r. sum_by length (map (λ l. l.entries.items) r.0.items) ≤ 2 ^ 24) }
+{
+    let mut listed = Vec::with_capacity(alloc, groups.len())?;
+    let mut count = 0;
+    for group in groups {
+        let entries = list_over(alloc, tree, group.around, t, steps)?;
+        count += entries.len() as u64;
+        listed.push(Listed {
+            group: *group,
+            entries: while_few(alloc, count, entries),
+        })?;
+    }
+    Ok((listed, count))
+}
+
+// The entries, unless there are too many of all lists to keep.
+fn while_few(alloc: Global, count: u64, entries: Vec<Entry>) -> Vec<Entry>
+    ensures few { count ≤ 2 ^ 24 → result.items ≡ entries.items }
+    ensures many { 2 ^ 24 < count → result.items ≡ [] }
+{
+    if count <= MOST_ENTRIES {
+        entries
+    } else {
+        Vec::new(alloc)
+    }
+}

@@ -1,0 +1,15 @@
+// The interaction lists of the groups of one rank, while they are gathered and when they are whole. It
+// stands on morton_tree, opening_test and pf_model, with the cells of pf_geom and the want of memory of
+// pf_num.
+#![tactic(auto)]
+
+mod gather;
+mod listed;
+mod lists;
+mod scan;
+
+pub use gather::Gather;
+pub use lists::{HasLists, Lists};
+
+#[cfg(test)]
+mod tests;

@@ -1,0 +1,91 @@
+ghost use Rattle.std.specs.Prelude.{◌≡◌, ◌+◌, ◌<◌, ◌≤◌, List, IfOk, IfSome, length, map, sum_by};
+ghost use Rattle.pf_geom.specs.Bounds.{Bounds};
+ghost use Rattle.pf_model.specs.Particle.{Particle};
+ghost use Rattle.pf_model.specs.Particles.{HaveDistinctIds};
+ghost use Rattle.pf_model.specs.Criterion.{Criterion};
+ghost use Rattle.pf_model.specs.Interaction.{level_of, entry_of, list_of};
+ghost use Rattle.morton_tree.specs.Tree.{IsUnmoved};
+ghost use Rattle.group_lists.specs.Places.{place_of};
+
+use morton_tree::Tree;
+use opening_test::passes;
+use pf_geom::{Box3, Point, cell_of};
+use pf_model::{Body, Entry, Steps, Theta, levels_are_least, lists_hold_their_entries};
+use pf_num::OutOfMemory;
+use std::alloc::Global;
+use std::sync::ledger::Ledger;
+
+// The levels of cells run from 0 to 30.
+const LEVELS: u32 = 31;
+
+// The interaction list of a box over the bodies of a tree, by a plain scan: each body is judged by itself,
+// also where the one before it leads to the same cell.
+pub(crate) fn list_over<L: Ledger>(
+    alloc: Global,
+    tree: &Tree,
+    b: Box3,
+    t: Theta,
+    steps: &mut Steps<L>,
+) -> Result<Vec<Entry>, OutOfMemory>
+    requires { IsUnmoved tree.now }
+    ensures value { IfOk result (λ entries. entries.items ≡ list_of t b tree.now.built) }
+    ensures few { IfOk result (λ entries. length entries.items ≤ 65536) }
+{
+    let bodies = tree.bodies();
+    let mut entries = Vec::with_capacity(alloc, bodies.len())?;
+    for body in bodies {
+        entries.push(entry_for(tree, b, t, body, steps))?;
+    }
+    put_in_order(&mut entries);
+    Ok(entries)
+}
+
+// Puts the entries that particles lead to into the order of lists, each once.
+fn put_in_order(entries: &mut Vec<Entry>)
+    ensures { (t : Criterion) (box : Bounds) (js : List Particle) → HaveDistinctIds js
+        → entries.old.items ≡ map (entry_of t box js) js → entries.new.items ≡ list_of t box js }
+{
+    levels_are_least();
+    lists_hold_their_entries();
+    entries.sort_unstable_by_key(|entry| place_of(entry));
+    entries.dedup_by_key(|entry| place_of(entry));
+}
+
+// Where an entry stands in lists: cells by level and key, and after them particles by id.
+fn place_of(entry: &Entry) -> (u32, u128)
+    ensures { result ≡ place_of entry.now }
+{
+    match entry {
+        Entry::Cell(cell, _) => (cell.level, cell.key),
+        Entry::One(body) => (LEVELS, u128::from(body.id)),
+    }
+}
+
+// The entry that a body of the tree leads to. All bodies in its cell lead there.
+fn entry_for<L: Ledger>(tree: &Tree, b: Box3, t: Theta, body: &Body, steps: &mut Steps<L>) -> Entry
+    requires { IsUnmoved tree.now }
+    ensures { result ≡ entry_of t b tree.now.built body.now }
+{
+    levels_are_least();
+    match first_level(b, t, body.at, steps) {
+        Some(level) => {
+            let cell = cell_of(body.at, level);
+            Entry::Cell(cell, tree.moment(tree.node(cell)))
+        }
+        None => Entry::One(*body),
+    }
+}
+
+// The least level at which the cell of a point passes the opening test, if there is one.
+fn first_level<L: Ledger>(b: Box3, t: Theta, p: Point, steps: &mut Steps<L>) -> Option<u32>
+    ensures value { result ≡ level_of t b p }
+    ensures fits { IfSome result (λ level. level ≤ 30) }
+{
+    levels_are_least();
+    for level in 0..LEVELS {
+        if passes(b, cell_of(p, level), t, steps) {
+            return Some(level);
+        }
+    }
+    None
+}
