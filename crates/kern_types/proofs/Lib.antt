@@ -1,0 +1,4 @@
+pub mod Acts
+pub mod Kernels
+pub mod Nodes
+pub mod Nothing
