@@ -4,7 +4,7 @@ use Rattle.std.proofs.lemmas.Int.{ints}
 use Rattle.std.proofs.lemmas.List.Sums.{sum_by-append}
 use Rattle.pf_model.specs.Particle.{Particle}
 use Rattle.pf_model.specs.Sums.{moment_of, int_sum_by, attribute}
-use Rattle.moments.specs.Laws.{MomentsJoin}
+use Rattle.pf_model.specs.MomentLaws.{MomentsAddUp}
 
 add_none : (a : ℤ) → a ≡ pos 0 +ℤ a
 add_none a = omega (arith, ints)
@@ -16,7 +16,7 @@ int_sum_by-append : {X : Type 0} (f : X → ℤ) (xs ys : List X) → int_sum_by
 int_sum_by-append f [] ys = add_none (int_sum_by f ys)
 int_sum_by-append f (x ∷ xs) ys = ap (λ s. f x +ℤ s) (int_sum_by-append f xs ys) ∙ add_grouped (f x) (int_sum_by f xs) (int_sum_by f ys)
 
-pub moments_join : MomentsJoin
+pub moments_join : MomentsAddUp
 unfolding moment_of
 moments_join xs ys =
     let count : length (xs ++ ys) ≡ length xs + length ys = length-append xs ys in

@@ -1,4 +1,3 @@
-pub mod Laws
 pub mod Prefix
 pub use Rattle.pf_model.specs.Particle
 pub use Rattle.pf_model.specs.Totals

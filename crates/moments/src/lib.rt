@@ -2,12 +2,10 @@
 // them. It stands on pf_model, with the points of pf_geom and the want of memory of pf_num.
 #![tactic(auto)]
 
-mod laws;
 mod moment;
 mod prefix;
 mod source;
 
-pub use laws::moments_join;
 pub use moment::{merge, of_one};
 pub use prefix::{Prefix, prefix_of};
 pub use source::{centre, item};
