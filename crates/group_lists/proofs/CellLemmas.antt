@@ -35,10 +35,10 @@ share_lower p q level deep above within same =
 first_shared : (t : Criterion) (box : Bounds) (p q : Position) (level : ℕ) → IsFirstPassing t box p level → cell_at q level ≡ cell_at p level → IsFirstPassing t box q level
 first_shared t box p q level h same = record {
   within = h.within;
-  passes = subst (Passes t box) (sym same) h.passes;
+  passes = subst (λ (c : Octant). Passes box c t) (sym same) h.passes;
   lowest = λ lower less passes.
       let shared = share_lower q p lower level (omega arith) h.within same in
-      h.lowest lower less (subst (Passes t box) shared passes);
+      h.lowest lower less (subst (λ (c : Octant). Passes box c t) shared passes);
 }
 
 -- a particle that lies in it leads to it
@@ -69,4 +69,4 @@ led_are_inside laws t box p level h js =
 
 -- no lower cell of the position passes
 abbrev pub NonePassesBelow : Criterion → Bounds → Position → ℕ → Type 0
-NonePassesBelow t box p level = (lower : ℕ) → lower < level → Passes t box (cell_at p lower) → ⊥
+NonePassesBelow t box p level = (lower : ℕ) → lower < level → Passes box (cell_at p lower) t → ⊥

@@ -19,11 +19,11 @@ use Rattle.pf_model.specs.Sums.{moment_of}
 use Rattle.pf_model.specs.Interaction.{level_of, is_cell_at, leads_to_cell, entry_at, entry_of, comes_before, list_of}
 use Rattle.pf_model.specs.ListLaws.{ListsHoldTheirEntries}
 use Rattle.pf_model.specs.MomentLaws.{ListsIgnoreOrder}
+use Rattle.pf_model.specs.DomainLaws.{OneRankHasItsOwn, AllRanksHaveAll}
 use Rattle.morton_tree.specs.declared.group.Group.{Group}
 use Rattle.group_lists.specs.declared.listed.Listed.{Listed}
 use Rattle.group_lists.specs.Gathering.{Gathering, own_gathering, partial_list, IsWhole, IsGroupOf, IsGathered}
 use Rattle.group_lists.specs.Whole.{HasMembers, IsListed}
-use Rattle.group_lists.proofs.RankLemmas.{one_rank, all_ranks}
 
 length-placed : {X : Type 0} (before : X → X → Bool) (x : X) (ys : List X) → length (placed before x ys) ≤ suc (length ys)
 length-placed before x [] = omega arith
@@ -142,15 +142,15 @@ listed_more t js groups i listed more count group entries l within at h next pus
     (subst (λ (ls : List Listed). AreListed t js (take i groups ++ group ∷ []) ls (count + length entries)) (sym pushed) (listed_push t js (take i groups) listed count group entries l h next))
 
 -- over the own particles alone
-own_partial : ListsIgnoreOrder → (t : Criterion) (g : Division) (js own : List Particle) (rank : ℕ) (groups : List Group) → HaveDistinctIds own → IsPermutation own (particles_of g js rank) → partial_list t g js (own_gathering rank own groups) ≡ list_round t own
-own_partial laws t g js own rank groups distinct same =
+own_partial : ListsIgnoreOrder → OneRankHasItsOwn → (t : Criterion) (g : Division) (js own : List Particle) (rank : ℕ) (groups : List Group) → HaveDistinctIds own → IsPermutation own (particles_of g js rank) → partial_list t g js (own_gathering rank own groups) ≡ list_round t own
+own_partial laws one_rank t g js own rank groups distinct same =
     let each : (group : Group) → partial_list t g js (own_gathering rank own groups) group ≡ list_round t own group = λ group.
     ap (list_of t group.around) (one_rank g js rank) ∙ sym (laws t group.around own (particles_of g js rank) distinct same) in
     λ i group. each group i
 
-pub gathered_from_listed : ListsIgnoreOrder → (t : Criterion) (g : Division) (js own : List Particle) (rank : ℕ) (groups : List Group) (lists : List (List Entry)) (count : ℕ) → HaveDistinctIds own → IsPermutation own (particles_of g js rank) → length groups ≤ 65536 → All (IsGroupOf own) groups → count ≡ sum_by (λ group. length (list_round t own group)) groups → (count ≤ 2 ^ 24 → lists ≡ map (list_round t own) groups) → sum_by length lists ≤ 2 ^ 24 → IsGathered t g js (own_gathering rank own groups) lists count
-gathered_from_listed laws t g js own rank groups lists count distinct same few of_own counted kept bounded =
-    let partial = sym (own_partial laws t g js own rank groups distinct same) in
+pub gathered_from_listed : ListsIgnoreOrder → OneRankHasItsOwn → (t : Criterion) (g : Division) (js own : List Particle) (rank : ℕ) (groups : List Group) (lists : List (List Entry)) (count : ℕ) → HaveDistinctIds own → IsPermutation own (particles_of g js rank) → length groups ≤ 65536 → All (IsGroupOf own) groups → count ≡ sum_by (λ group. length (list_round t own group)) groups → (count ≤ 2 ^ 24 → lists ≡ map (list_round t own) groups) → sum_by length lists ≤ 2 ^ 24 → IsGathered t g js (own_gathering rank own groups) lists count
+gathered_from_listed laws one_rank t g js own rank groups lists count distinct same few of_own counted kept bounded =
+    let partial = sym (own_partial laws one_rank t g js own rank groups distinct same) in
     record {
       own = same;
       few = few;
@@ -161,8 +161,8 @@ gathered_from_listed laws t g js own rank groups lists count distinct same few o
     }
 
 -- over the particles of all ranks
-pub whole_partial : (t : Criterion) (g : Division) (js : List Particle) (gather : Gathering) → IsDivision g → IsWhole g gather → partial_list t g js gather ≡ list_round t js
-whole_partial t g js gather division whole i group = list_of t group.around (all_ranks g js (gather.rank ∷ gather.absorbed) division whole i)
+pub whole_partial : AllRanksHaveAll → (t : Criterion) (g : Division) (js : List Particle) (gather : Gathering) → IsDivision g → IsWhole g gather → partial_list t g js gather ≡ list_round t js
+whole_partial all_ranks t g js gather division whole i group = list_of t group.around (all_ranks g js (gather.rank ∷ gather.absorbed) division whole i)
 
 -- where the lists are those of groups of so many particles, each keeps the limits
 pub listed_each : ListsHoldTheirEntries → (t : Criterion) (js own : List Particle) (listed : List Listed) → HaveDistinctIds js → length js ≤ 65536 → All (IsGroupOf own) (map (λ l. l.group) listed) → map (λ l. l.entries.items) listed ≡ map (list_round t js) (map (λ l. l.group) listed) → All (λ l. IsListed (length own) l.group.span l.entries.items) listed

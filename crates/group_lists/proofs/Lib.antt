@@ -1,4 +1,3 @@
 pub mod CellLemmas
 pub mod OrderLemmas
-pub mod RankLemmas
 pub mod GatherLemmas

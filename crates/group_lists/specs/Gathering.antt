@@ -1,6 +1,7 @@
 -- The lists of a rank's groups, while the particles of other ranks are still to come.
 use Rattle.std.specs.Prelude.{◌≡◌, ℕ, ◌+◌, ◌^◌, ◌<◌, ◌≤◌, List, [], ◌∷◌, length, map, sum_by, All, Contains, IsPermutation}
 use Rattle.pf_model.specs.declared.entry.Entry.{Entry}
+use Rattle.pf_model.specs.declared.limits.TheConstants.{MOST_PARTICLES}
 use Rattle.pf_model.specs.Particle.{Particle}
 use Rattle.pf_model.specs.Criterion.{Criterion}
 use Rattle.pf_model.specs.Division.{Division, rank_count}
@@ -43,7 +44,7 @@ pub record IsGroupOf (js : List Particle) (g : Group) : Type 0 where
 -- and the lists themselves while they are few; it never stores more entries
 pub record IsGathered (t : Criterion) (g : Division) (js : List Particle) (gather : Gathering) (lists : List (List Entry)) (count : ℕ) : Type 0 where
   pub own : IsPermutation gather.own (particles_of g js gather.rank)
-  pub few : length gather.groups ≤ 65536
+  pub few : length gather.groups ≤ MOST_PARTICLES
   pub of_own : All (IsGroupOf gather.own) gather.groups
   pub counted : count ≡ gathered_count t g js gather
   pub kept : count ≤ 2 ^ 24 → lists ≡ map (partial_list t g js gather) gather.groups

@@ -1,9 +1,10 @@
 -- Where entries stand in lists.
-use Rattle.std.specs.Prelude.{ℕ}
+use Rattle.std.specs.Prelude.{ℕ, ◌+◌}
+use Rattle.pf_geom.specs.declared.cell.TheConstants.{DEEPEST}
 use Rattle.pf_model.specs.declared.entry.Entry.{Entry}
 use Rattle.pf_model.specs.declared.entry.Entry.TheVariants.{Cell, One}
 
--- cells by level and key, and after them, past level 30, particles by id
+-- cells by level and key, and after them, past the deepest level, particles by id
 abbrev pub place_of : Entry → ℕ × ℕ
 place_of (Cell c m) = (c.level, c.key)
-place_of (One p) = (31, p.id)
+place_of (One p) = (DEEPEST + 1, p.id)

@@ -2,6 +2,7 @@
 use Rattle.std.specs.Prelude.{ℕ, ◌+◌, ◌≤◌, List, length, All, ⊤}
 use Rattle.pf_model.specs.declared.entry.Entry.{Entry}
 use Rattle.pf_model.specs.declared.entry.Entry.TheVariants.{Cell, One}
+use Rattle.pf_model.specs.declared.limits.TheConstants.{MOST_PARTICLES}
 use Rattle.pf_model.specs.Particle.{Particle}
 use Rattle.morton_tree.specs.declared.span.Span.{Span}
 
@@ -15,9 +16,9 @@ abbrev pub HasMembers : Entry → Type 0
 HasMembers (Cell c m) = 1 ≤ m.count
 HasMembers (One p) = ⊤
 
--- what each list keeps: the span of its group is among that many particles, and it has at most 65,536
--- entries, of which each cell has members
+-- what each list keeps: the span of its group is among that many particles, and it has few entries, of which each
+-- cell has members
 pub record IsListed (count : ℕ) (span : Span) (entries : List Entry) : Type 0 where
   pub inside : span.first + span.len ≤ count
-  pub few : length entries ≤ 65536
+  pub few : length entries ≤ MOST_PARTICLES
   pub some : All HasMembers entries

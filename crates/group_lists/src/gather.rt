@@ -10,7 +10,10 @@ use crate::listed::Listed;
 use crate::lists::Lists;
 use crate::scan::list_over;
 use morton_tree::{Group, Tree};
-use pf_model::{Body, Entry, Steps, Terms, Theta, lists_hold_their_entries, lists_ignore_order};
+use pf_model::{
+    Body, Entry, MOST_PARTICLES, Steps, Terms, Theta, all_ranks_have_all, lists_hold_their_entries,
+    lists_ignore_order, one_rank_has_its_own,
+};
 use pf_num::OutOfMemory;
 use std::alloc::Global;
 use std::marker::{Model, PhantomData};
@@ -44,7 +47,7 @@ impl<T: Terms> Model for Gather<T> {
 
 impl<T: Terms> Gather<T> {
     /// Begins the lists of groups of a rank's tree, which hasn't moved, with its own bodies. There are at
-    /// most 65,536 groups, each with a span of the tree and the least box round its bodies.
+    /// most `MOST_PARTICLES` groups, each with a span of the tree and the least box round its bodies.
     pub fn open<L: Ledger>(
         alloc: Global,
         rank: u32,
@@ -55,7 +58,7 @@ impl<T: Terms> Gather<T> {
         steps: &mut Steps<L>,
     ) -> Result<Gather<T>, OutOfMemory>
         requires unmoved { IsUnmoved tree.now }
-        requires few { length groups.now ≤ 65536 }
+        requires few { length groups.now ≤ MOST_PARTICLES }
         requires of_tree { All (IsGroupOf tree.now.built) groups.now }
         requires rank { rank < ranks }
         requires ranks { rank_count T.grid ≡ ranks }
@@ -64,6 +67,7 @@ impl<T: Terms> Gather<T> {
         ensures { IfOk result (λ gather. gather ≡ own_gathering rank tree.now.built groups.now) }
     {
         lists_ignore_order();
+        one_rank_has_its_own();
         let (listed, count) = list_groups(alloc, tree, groups, t, steps)?;
         let bodies = tree.bodies().to_vec(alloc)?;
         Ok(Gather {
@@ -103,6 +107,7 @@ impl<T: Terms> Gather<T> {
             ≡ map (λ g. list_of T.theta g.around T.particles) self.groups) }
     {
         lists_hold_their_entries();
+        all_ranks_have_all();
         Ok(Lists::of(self.bodies, self.listed))
     }
 }
@@ -116,7 +121,7 @@ fn list_groups<L: Ledger>(
     steps: &mut Steps<L>,
 ) -> Result<(Vec<Listed>, u64), OutOfMemory>
     requires unmoved { IsUnmoved tree.now }
-    requires few { length groups.now ≤ 65536 }
+    requires few { length groups.now ≤ MOST_PARTICLES }
     ensures each { IfOk result (λ r. map (λ l. l.group) r.0.items ≡ groups.now) }
     ensures count { IfOk result (λ r. r.1
         ≡ sum_by (λ g. length (list_of t g.around tree.now.built)) groups.now) }

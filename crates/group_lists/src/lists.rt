@@ -3,7 +3,7 @@ ghost use Rattle.morton_tree.specs.Spans.{at_span};
 ghost use Rattle.group_lists.specs.Whole.{GroupList, IsListed, HasMembers};
 
 use crate::listed::Listed;
-use pf_model::{Body, Entry};
+use pf_model::{Body, Entry, MOST_PARTICLES};
 use std::marker::Model;
 
 /// The groups of one rank with their interaction lists over the particles of all ranks.
@@ -16,6 +16,7 @@ pub struct Lists {
 impl Model for Lists {
     ghost use Rattle.std.specs.Prelude.{List, ◌≤◌, All, length, map};
     ghost use Rattle.morton_tree.specs.Spans.{at_span};
+    ghost use Rattle.pf_model.specs.declared.limits.TheConstants.{MOST_PARTICLES};
     ghost use Rattle.group_lists.specs.Whole.{GroupList, IsListed};
 
     ghost Value = { List GroupList };
@@ -23,7 +24,7 @@ impl Model for Lists {
     ghost view = { λ s. map (λ l. record { bodies = at_span l.group.span s.bodies.items; entries = l.entries.items })
         s.listed.items };
 
-    ghost invariant = { λ s. (length s.listed.items ≤ 65536)
+    ghost invariant = { λ s. (length s.listed.items ≤ MOST_PARTICLES)
         × All (λ l. IsListed (length s.bodies.items) l.group.span l.entries.items) s.listed.items };
 }
 
@@ -46,7 +47,7 @@ impl HasLists for Lists {
 impl Lists {
     // The lists of a rank's groups, whose spans lie among its bodies.
     pub(crate) fn of(bodies: Vec<Body>, listed: Vec<Listed>) -> Lists
-        requires few { length listed.items ≤ 65536 }
+        requires few { length listed.items ≤ MOST_PARTICLES }
         requires each { All (λ l. IsListed (length bodies.items) l.group.span l.entries.items) listed.items }
         ensures { result
             ≡ map (λ l. record { bodies = at_span l.group.span bodies.items; entries = l.entries.items }) listed.items }
@@ -58,7 +59,7 @@ impl Lists {
     pub fn entries(&self, group: u32) -> &[Entry]
         requires { group < length self.now }
         ensures value { slice_get (map (λ l. l.entries) self.now) group ≡ Some result.now }
-        ensures few { length result.now ≤ 65536 }
+        ensures few { length result.now ≤ MOST_PARTICLES }
         ensures some { All HasMembers result.now }
     {
         &self.listed[group as usize].entries
@@ -74,10 +75,10 @@ impl Lists {
         &self.bodies[first..first + span.len as usize]
     }
 
-    /// How many groups there are, at most 65,536.
+    /// How many groups there are, at most `MOST_PARTICLES`.
     pub fn groups(&self) -> u32
         ensures value { result ≡ length self.now }
-        ensures few { result ≤ 65536 }
+        ensures few { result ≤ MOST_PARTICLES }
     {
         self.listed.len() as u32
     }

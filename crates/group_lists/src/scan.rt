@@ -9,14 +9,16 @@ ghost use Rattle.group_lists.specs.Places.{place_of};
 
 use morton_tree::Tree;
 use opening_test::passes;
-use pf_geom::{Box3, Point, cell_of};
-use pf_model::{Body, Entry, Steps, Theta, levels_are_least, lists_hold_their_entries};
+use pf_geom::{Box3, DEEPEST, Point, cell_of};
+use pf_model::{
+    Body, Entry, MOST_PARTICLES, Steps, Theta, levels_are_least, lists_hold_their_entries,
+};
 use pf_num::OutOfMemory;
 use std::alloc::Global;
 use std::sync::ledger::Ledger;
 
-// The levels of cells run from 0 to 30.
-const LEVELS: u32 = 31;
+// Particles come after cells of every level.
+const AFTER_CELLS: u32 = DEEPEST + 1;
 
 // The interaction list of a box over the bodies of a tree, by a plain scan: each body is judged by itself,
 // also where the one before it leads to the same cell.
@@ -29,7 +31,7 @@ pub(crate) fn list_over<L: Ledger>(
 ) -> Result<Vec<Entry>, OutOfMemory>
     requires { IsUnmoved tree.now }
     ensures value { IfOk result (λ entries. entries.items ≡ list_of t b tree.now.built) }
-    ensures few { IfOk result (λ entries. length entries.items ≤ 65536) }
+    ensures few { IfOk result (λ entries. length entries.items ≤ MOST_PARTICLES) }
 {
     let bodies = tree.bodies();
     let mut entries = Vec::with_capacity(alloc, bodies.len())?;
@@ -57,7 +59,7 @@ fn place_of(entry: &Entry) -> (u32, u128)
 {
     match entry {
         Entry::Cell(cell, _) => (cell.level, cell.key),
-        Entry::One(body) => (LEVELS, u128::from(body.id)),
+        Entry::One(body) => (AFTER_CELLS, u128::from(body.id)),
     }
 }
 
@@ -79,10 +81,10 @@ fn entry_for<L: Ledger>(tree: &Tree, b: Box3, t: Theta, body: &Body, steps: &mut
 // The least level at which the cell of a point passes the opening test, if there is one.
 fn first_level<L: Ledger>(b: Box3, t: Theta, p: Point, steps: &mut Steps<L>) -> Option<u32>
     ensures value { result ≡ level_of t b p }
-    ensures fits { IfSome result (λ level. level ≤ 30) }
+    ensures fits { IfSome result (λ level. level ≤ DEEPEST) }
 {
     levels_are_least();
-    for level in 0..LEVELS {
+    for level in 0..DEEPEST + 1 {
         if passes(b, cell_of(p, level), t, steps) {
             return Some(level);
         }

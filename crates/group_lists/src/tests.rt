@@ -5,7 +5,7 @@ ghost use Rattle.pf_model.specs.Division.{rank_count};
 use super::*;
 use morton_tree::Tree;
 use pf_geom::{Edge, Point};
-use pf_model::{Body, Entry, Steps, Terms, Theta};
+use pf_model::{Body, Entry, Steps, Terms, Theta, lone_ranks_have_all};
 use pf_num::OutOfMemory;
 use std::alloc::Global;
 use std::marker::Brand;
@@ -63,6 +63,7 @@ fn lists_of<T: Terms + Send + Sync, L: Ledger>(
     requires parts { blank.parts ≡ L.parts }
     requires some { 0 < L.parts }
 {
+    lone_ranks_have_all();
     let tree = Tree::build(rt, alloc, Vec::from_array(alloc, bodies)?)?;
     let groups = tree.groups(alloc, 1)?;
     let mut steps = Steps::new(blank);

@@ -1,3 +1,2 @@
 pub mod MomentLemmas
-pub mod DifferenceLemmas
 pub mod PrefixLemmas

@@ -10,9 +10,9 @@ use Rattle.std.proofs.lemmas.List.Elements.{All-nil, All-cons, All-head, All-tai
 use Rattle.pf_model.specs.Particle.{Particle}
 use Rattle.pf_model.specs.Totals.{Totals, IsTotals}
 use Rattle.pf_model.specs.Sums.{moment_of, together, pairwise_sums}
+use Rattle.pf_model.specs.MomentLaws.{MomentsCancel}
 use Rattle.moments.specs.Prefix.{prefix_moments, KeepsLimits}
 use Rattle.moments.proofs.MomentLemmas.{moments_join}
-use Rattle.moments.proofs.DifferenceLemmas.{difference, difference_is}
 
 -- the first n of the prefix moments
 abbrev pub first_moments : List Particle → ℕ → List Totals
@@ -130,16 +130,18 @@ range_makes js ms i n through before is within at_end at_start =
     at_end ∙ at_prefix js ms (i + n) through is within ∙ ap moment_of (take-add i n js) ∙ moments_join (take i js) (take n (drop i js))
     ∙ ap (λ (t : Totals). together t (moment_of (take n (drop i js)))) (sym before_is)
 
-rest_from : (js : List Particle) (ms : List Totals) (i n : ℕ) (d : Totals) → ms ≡ prefix_moments js → i + n < length ms → difference (get_or ms (i + n) d) (get_or ms i d) ≡ moment_of (take n (drop i js))
-rest_from js ms i n d is within =
-    let start = at_prefix js ms i d is (omega arith) in
-    let through = at_prefix js ms (i + n) d is within ∙ ap moment_of (take-add i n js) ∙ moments_join (take i js) (take n (drop i js)) in
-    ap (λ (t : Totals). difference t (get_or ms i d)) through ∙ ap (λ (t : Totals). difference (together (moment_of (take i js)) (moment_of (take n (drop i js)))) t) start
-    ∙ difference_is (moment_of (take i js)) (moment_of (take n (drop i js))) (three_weighted (take n (drop i js))) (eight_attributes (take i js) ∙ sym (eight_attributes (take n (drop i js))))
+-- the same of the moments of prefixes alone
+range_joins : (js : List Particle) (ms : List Totals) (i n : ℕ) (d : Totals) → ms ≡ prefix_moments js → i + n < length ms → get_or ms (i + n) d ≡ together (moment_of (take i js)) (moment_of (take n (drop i js)))
+range_joins js ms i n d is within = at_prefix js ms (i + n) d is within ∙ ap moment_of (take-add i n js) ∙ moments_join (take i js) (take n (drop i js))
 
 -- lists with the same prefix moments have the same moments of ranges
-pub same_range : (js ks : List Particle) (ms : List Totals) (i n : ℕ) → ms ≡ prefix_moments js → ms ≡ prefix_moments ks → i + n < length ms → moment_of (take n (drop i js)) ≡ moment_of (take n (drop i ks))
-same_range js ks ms i n p q within = sym (rest_from js ms i n (moment_of []) p within) ∙ rest_from ks ms i n (moment_of []) q within
+pub same_range : MomentsCancel → (js ks : List Particle) (ms : List Totals) (i n : ℕ) → ms ≡ prefix_moments js → ms ≡ prefix_moments ks → i + n < length ms → moment_of (take n (drop i js)) ≡ moment_of (take n (drop i ks))
+same_range cancel js ks ms i n p q within =
+    let d = moment_of [] in
+    let rest = moment_of (take n (drop i ks)) in
+    let starts = sym (at_prefix ks ms i d q (omega arith)) ∙ at_prefix js ms i d p (omega arith) in
+    cancel (take i js) (take n (drop i js)) (take n (drop i ks))
+    (sym (range_joins js ms i n d p within) ∙ range_joins ks ms i n d q within ∙ ap (λ (t : Totals). together t rest) starts)
 
 -- one particle more
 

@@ -1,9 +1,10 @@
 -- Prefix sums over a list of particles.
-use Rattle.std.specs.Prelude.{◌≡◌, ◌+◌, ◌≤◌, ℤ, ◌-ℤ◌, List, [], ◌∷◌, length, take, map, All}
+use Rattle.std.specs.Prelude.{◌≡◌, ◌+◌, ◌≤◌, List, [], ◌∷◌, length, take, map, All}
 use Rattle.std.specs.List.{range_with_len}
+use Rattle.pf_model.specs.declared.limits.TheConstants.{MOST_PARTICLES}
 use Rattle.pf_model.specs.Particle.{Particle}
 use Rattle.pf_model.specs.Totals.{Totals, IsTotals}
-use Rattle.pf_model.specs.Sums.{moment_of, together}
+use Rattle.pf_model.specs.Sums.{moment_of}
 
 -- the moments of the first particles, for each count of them from none to all
 abbrev pub prefix_moments : List Particle → List Totals
@@ -13,23 +14,12 @@ prefix_moments js = map (λ k. moment_of (take k js)) (range_with_len 0 (length 
 abbrev pub KeepsLimits : Particle → Type 0
 KeepsLimits j = IsTotals (moment_of (j ∷ []))
 
--- the prefix moments of at most 65,536 particles
+-- the prefix moments of few enough particles
 pub record IsPrefixOf (js : List Particle) (ms : List Totals) : Type 0 where
-  pub few : length js ≤ 65536
+  pub few : length js ≤ MOST_PARTICLES
   pub limits : All KeepsLimits js
   pub moments : ms ≡ prefix_moments js
 
 -- prefix moments that a `Prefix` can hold
 abbrev pub IsPrefix : List Totals → Type 0
 IsPrefix ms = (js : List Particle) × IsPrefixOf js ms
-
--- the differences of two lists, place by place
-abbrev pub pairwise_differences : List ℤ → List ℤ → List ℤ
-pairwise_differences [] bs = []
-pairwise_differences (a ∷ more) [] = []
-pairwise_differences (a ∷ more) (b ∷ bs) = (a -ℤ b) ∷ pairwise_differences more bs
-
--- the moment of the others, where `all` is the moment of `some` and others
-pub record IsRest (all some rest : Totals) : Type 0 where
-  pub limits : IsTotals rest
-  pub makes : all ≡ together some rest

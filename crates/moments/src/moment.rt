@@ -1,7 +1,7 @@
 ghost use Rattle.std.specs.Prelude.{◌≡◌, ◌+◌, ◌≤◌, [], ◌∷◌};
 ghost use Rattle.pf_model.specs.Sums.{moment_of, together};
 
-use pf_model::{Body, Moment};
+use pf_model::{Body, MOST_PARTICLES, Moment};
 
 /// The moment of one particle.
 pub fn of_one(b: &Body) -> Moment
@@ -12,7 +12,7 @@ pub fn of_one(b: &Body) -> Moment
 
 /// The moment of some particles and others, from those of both.
 pub fn merge(m: Moment, n: Moment) -> Moment
-    requires { m.count + n.count ≤ 65536 }
+    requires { m.count + n.count ≤ MOST_PARTICLES }
     ensures { result ≡ together m n }
 {
     m.merge(n)

@@ -1,10 +1,10 @@
-ghost use Rattle.std.specs.Prelude.{◌≡◌, ◌+◌, ◌≤◌, ◌<◌, ◌^◌, All, unsigned_abs, List, [], ◌∷◌, length, take, drop, IfOk};
+ghost use Rattle.std.specs.Prelude.{◌≡◌, ◌+◌, ◌≤◌, ◌<◌, List, [], ◌∷◌, length, take, drop, IfOk};
 ghost use Rattle.pf_model.specs.Particle.{Particle};
-ghost use Rattle.pf_model.specs.Totals.{Totals, IsTotals};
+ghost use Rattle.pf_model.specs.Totals.{IsTotals};
 ghost use Rattle.pf_model.specs.Sums.{moment_of};
-ghost use Rattle.moments.specs.Prefix.{prefix_moments, IsRest, pairwise_differences};
+ghost use Rattle.moments.specs.Prefix.{prefix_moments};
 
-use pf_model::{Body, Moment};
+use pf_model::{Body, MOST_PARTICLES, Moment, moments_cancel};
 use pf_num::OutOfMemory;
 use std::alloc::Global;
 use std::marker::Model;
@@ -28,9 +28,9 @@ impl Model for Prefix {
     ghost invariant = { λ p. IsPrefix p.moments.items };
 }
 
-/// The prefix of a list of at most 65,536 bodies.
+/// The prefix of a list of at most `MOST_PARTICLES` bodies.
 pub fn prefix_of(alloc: Global, bodies: &[Body]) -> Result<Prefix, OutOfMemory>
-    requires { length bodies.now ≤ 65536 }
+    requires { length bodies.now ≤ MOST_PARTICLES }
     ensures { IfOk result (λ p. p ≡ prefix_moments bodies.now) }
 {
     let mut moments = Vec::with_capacity(alloc, bodies.len() + 1)?;
@@ -51,7 +51,8 @@ impl Prefix {
     {
         let before = self.moments[first as usize];
         let through = self.moments[(first + len) as usize];
-        without(through, before)
+        moments_cancel();
+        through.without(before)
     }
 }
 
@@ -63,31 +64,4 @@ fn limited_moment(body: &Body) -> Moment
     let moment = Moment::of_one(body);
     let _ = &moment.count;
     moment
-}
-
-// The moment that makes that of all together with that of some.
-fn without(all: Moment, some: Moment) -> Moment
-    requires { (rest : Totals) × IsRest all some rest }
-    ensures { (rest : Totals) → IsRest all some rest → result ≡ rest }
-{
-    let (w, v) = (all.weighted, some.weighted);
-    Moment {
-        count: all.count - some.count,
-        mass: all.mass - some.mass,
-        weighted: [w[0] - v[0], w[1] - v[1], w[2] - v[2]],
-        attr: attribute_differences(all.attr, some.attr),
-    }
-}
-
-// The differences of the attributes, each from its own.
-fn attribute_differences(a: [i64; 8], b: [i64; 8]) -> [i64; 8]
-    requires a_fits { All (λ n. unsigned_abs n ≤ 2 ^ 56) a }
-    requires b_fits { All (λ n. unsigned_abs n ≤ 2 ^ 56) b }
-    ensures { result ≡ pairwise_differences a b }
-{
-    let mut differences = a;
-    for k in 0..8 {
-        differences[k] = a[k] - b[k];
-    }
-    differences
 }

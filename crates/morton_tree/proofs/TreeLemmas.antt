@@ -15,7 +15,7 @@ use Rattle.std.proofs.lemmas.Map.Keys.{IsDistinct-IsPermutation}
 use Rattle.std.proofs.lemmas.Map.Made.{AllPairs-from_IsDistinct}
 use Rattle.pf_geom.specs.Key.{morton_key}
 use Rattle.pf_model.specs.Particle.{Particle}
-use Rattle.pf_model.specs.Particles.{HaveDistinctIds}
+use Rattle.pf_model.specs.Particles.{HaveDistinctIds, AreBodies}
 use Rattle.pf_model.specs.Domains.{comes_first}
 use Rattle.pf_model.specs.Sums.{moment_of}
 use Rattle.moments.specs.Prefix.{prefix_moments}
@@ -68,11 +68,12 @@ in_order_from_sort js distinct sorted i j d less within =
 nat_eq_flips : (x y : ℕ) → nat_eq x y ≡ nat_eq y x
 nat_eq_flips x y = grind (arith, nat_tests)
 
-pub octree_from_sort : (js ks : List Particle) → length js ≤ 65536 → HaveDistinctIds js → IsPermutation js ks → IsSortedBy is_less ks → IsOctree (unmoved_tree ks)
-octree_from_sort js ks few distinct same sorted =
+pub octree_from_sort : (js ks : List Particle) → AreBodies js → IsPermutation js ks → IsSortedBy is_less ks → IsOctree (unmoved_tree ks)
+octree_from_sort js ks bodies same sorted =
+    let few = bodies.few in
     let long = length_permutation js ks same in
-    let apart : HaveDistinctIds ks = IsDistinct-IsPermutation nat_eq nat_eq_flips _ _ (IsPermutation-map (λ p. p.id) js ks same) distinct in
-    record { few = omega arith; distinct = apart; ordered = in_order_from_sort ks apart sorted; same_ids = refl }
+    let apart : HaveDistinctIds ks = IsDistinct-IsPermutation nat_eq nat_eq_flips _ _ (IsPermutation-map (λ p. p.id) js ks same) bodies.distinct in
+    record { are_bodies = record { few = omega arith; distinct = apart }; ordered = in_order_from_sort ks apart sorted; same_ids = refl }
 
 -- as many particles as at the build
 pub same_length : (t : Octree) → IsOctree t → length t.bodies ≡ length t.built

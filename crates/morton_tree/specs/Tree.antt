@@ -1,8 +1,8 @@
 -- Trees: particles in the order of the Morton curve, which may have moved since.
-use Rattle.std.specs.Prelude.{◌≡◌, ◌≤◌, List, length, map, IsTrue, AllPairs}
+use Rattle.std.specs.Prelude.{◌≡◌, List, map, IsTrue, AllPairs}
 use Rattle.pf_geom.specs.Key.{morton_key}
 use Rattle.pf_model.specs.Particle.{Particle}
-use Rattle.pf_model.specs.Particles.{HaveDistinctIds}
+use Rattle.pf_model.specs.Particles.{AreBodies}
 use Rattle.pf_model.specs.Domains.{comes_first}
 use Rattle.pf_model.specs.Totals.{Totals}
 use Rattle.moments.specs.Prefix.{prefix_moments}
@@ -16,11 +16,10 @@ pub record Octree : Type 0 where
 abbrev pub IsInKeyOrder : List Particle → Type 0
 IsInKeyOrder js = AllPairs (λ i j. IsTrue (comes_first morton_key i j)) js
 
--- what each tree keeps: it was built of at most 65,536 particles of distinct ids in key order, and has the
--- same ids in the same places now
+-- what each tree keeps: it was built of few particles of distinct ids in key order, and has the same ids in the
+-- same places now
 pub record IsOctree (t : Octree) : Type 0 where
-  pub few : length t.built ≤ 65536
-  pub distinct : HaveDistinctIds t.built
+  pub are_bodies : AreBodies t.built
   pub ordered : IsInKeyOrder t.built
   pub same_ids : map (λ j. j.id) t.bodies ≡ map (λ j. j.id) t.built
 

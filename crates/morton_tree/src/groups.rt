@@ -1,27 +1,25 @@
 ghost use Rattle.std.specs.Prelude.{◌≡◌, ◌≤◌, IfOk, All, Contains, length, map};
-ghost use Rattle.pf_model.specs.Group.{group_cell, box_of};
+ghost use Rattle.pf_model.specs.Group.{group_cell};
 ghost use Rattle.morton_tree.specs.Tree.{IsUnmoved};
 ghost use Rattle.morton_tree.specs.Spans.{FollowOneAnother};
 ghost use Rattle.morton_tree.specs.Groups.{group_in, groups_of, IsGroup};
 
 use crate::group::Group;
 use crate::tree::Tree;
-use pf_geom::{Box3, Cell, Point, cell_of, widen};
-use pf_model::Body;
+use pf_geom::{Cell, DEEPEST, Point, cell_of};
+use pf_model::{Body, MOST_GROUP, box_of};
 use pf_num::OutOfMemory;
 use std::alloc::Global;
-
-// The deepest level of cells.
-const DEEPEST: u32 = 30;
 
 impl Tree {
     /// The groups of the bodies, which haven't moved since the build, by the key of their cell's corner. A
     /// group has the bodies of the largest cell round them that has no more of them than `limit`, or else
-    /// those of a cell of level 30, which is one place and may have more. The limit is from 1 to 65,536.
+    /// those of a cell of the deepest level, which is one place and may have more. The limit is from 1 to
+    /// `MOST_GROUP`.
     pub fn groups(&self, alloc: Global, limit: u32) -> Result<Vec<Group>, OutOfMemory>
         requires unmoved { IsUnmoved self.now }
         requires some { 1 ≤ limit }
-        requires most { limit ≤ 65536 }
+        requires most { limit ≤ MOST_GROUP }
         ensures value { IfOk result (λ groups. groups.items ≡ groups_of limit self.now.built) }
         ensures in_turn { IfOk result (λ groups. FollowOneAnother 0 (length self.now.built) (map (λ g. g.span) groups.items)) }
         ensures each { IfOk result (λ groups. All (IsGroup limit self.now.built) groups.items) }
@@ -50,7 +48,7 @@ impl Tree {
         Group {
             cell,
             span,
-            around: box_round(members),
+            around: box_of(members),
         }
     }
 
@@ -67,20 +65,4 @@ impl Tree {
         }
         cell_of(p, DEEPEST)
     }
-}
-
-// The least box round bodies, of which there is at least one.
-fn box_round(bodies: &[Body]) -> Box3
-    requires { 1 ≤ length bodies.now }
-    ensures { result ≡ box_of bodies.now }
-{
-    let first = &bodies[0];
-    let mut around = Box3 {
-        lo: first.at,
-        hi: first.at,
-    };
-    for body in &bodies[1..] {
-        around = widen(around, body.at);
-    }
-    around
 }

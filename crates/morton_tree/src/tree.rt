@@ -1,6 +1,6 @@
 ghost use Rattle.std.specs.Prelude.{◌≡◌, ◌+◌, ◌<◌, ◌≤◌, IfOk, IsPermutation, length, nat_lt};
 ghost use Rattle.pf_geom.specs.Octant.{cell_at};
-ghost use Rattle.pf_model.specs.Particles.{HaveDistinctIds};
+ghost use Rattle.pf_model.specs.Particles.{AreBodies};
 ghost use Rattle.pf_model.specs.Sums.{moment_of};
 ghost use Rattle.pf_model.specs.Group.{particles_in};
 ghost use Rattle.morton_tree.specs.Tree.{IsInKeyOrder, IsOctree, IsUnmoved, unmoved_tree};
@@ -8,7 +8,7 @@ ghost use Rattle.morton_tree.specs.Spans.{at_span, span_of, child_of, child_span
 
 use crate::span::Span;
 use moments::{Prefix, prefix_of};
-use pf_geom::{Cell, cell_of, key_of};
+use pf_geom::{Cell, DEEPEST, cell_of, key_of};
 use pf_model::{Body, Moment};
 use pf_num::OutOfMemory;
 use rayon::prelude::*;
@@ -36,8 +36,7 @@ impl Model for Tree {
 
 // Puts the bodies into the order of (key, id).
 fn sort_by_key(rt: &(impl Threads + Sync), bodies: &mut [Body])
-    requires few { length bodies.old ≤ 65536 }
-    requires distinct { HaveDistinctIds bodies.old }
+    requires { AreBodies bodies.old }
     ensures same_bodies { IsPermutation bodies.old bodies.new }
     ensures tree { IsOctree (unmoved_tree bodies.new) }
 {
@@ -45,14 +44,13 @@ fn sort_by_key(rt: &(impl Threads + Sync), bodies: &mut [Body])
 }
 
 impl Tree {
-    /// The tree of at most 65,536 bodies of distinct ids, which are put into the order of (key, id).
+    /// The tree of at most `MOST_PARTICLES` bodies of distinct ids, which are put into the order of (key, id).
     pub fn build(
         rt: &(impl Threads + Sync),
         alloc: Global,
         mut bodies: Vec<Body>,
     ) -> Result<Tree, OutOfMemory>
-        requires few { length bodies.items ≤ 65536 }
-        requires distinct { HaveDistinctIds bodies.items }
+        requires { AreBodies bodies.items }
         ensures same_bodies { IfOk result (λ tree. IsPermutation bodies.items tree.built) }
         ensures in_order { IfOk result (λ tree. IsInKeyOrder tree.built) }
         ensures unmoved { IfOk result (λ tree. IsUnmoved tree) }
@@ -91,9 +89,9 @@ impl Tree {
         Span::between(first, end)
     }
 
-    /// The spans of the eight children of a cell, in the order of their keys. The level is below 30.
+    /// The spans of the eight children of a cell, in the order of their keys. The level isn't the deepest.
     pub fn children(&self, c: Cell) -> [Span; 8]
-        requires { c.level < 30 }
+        requires { c.level < DEEPEST }
         ensures value { result ≡ child_spans c self.now.built }
         ensures in_turn { let whole = span_of c self.now.built in FollowOneAnother whole.first (whole.first + whole.len) result }
     {
@@ -111,7 +109,7 @@ impl Tree {
 
     // The span of one child of a cell.
     fn child(&self, c: Cell, k: u8) -> Span
-        requires level { c.level < 30 }
+        requires level { c.level < DEEPEST }
         requires child { k < 8 }
         ensures { result ≡ span_of (child_of c k) self.now.built }
     {

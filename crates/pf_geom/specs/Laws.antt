@@ -1,6 +1,7 @@
 -- Laws of keys, cells and gaps.
 use Rattle.std.specs.Prelude.{◌≡◌, ℕ, ◌+◌, ◌-◌, ◌*◌, ◌^◌, ◌<◌, ◌≤◌, ◌↔◌}
 use Rattle.pf_geom.specs.declared.edge.Edge.{Edge}
+use Rattle.pf_geom.specs.declared.cell.TheConstants.{DEEPEST}
 use Rattle.pf_geom.specs.Position.{Position, IsPosition}
 use Rattle.pf_geom.specs.Bounds.{Bounds, IsBox, IsInBox, IsWithin, IsLeastRound, box_round}
 use Rattle.pf_geom.specs.Key.{morton_key, HasBitsOf}
@@ -18,21 +19,21 @@ KeysAreDistinct = (p q : Position) → IsPosition p → IsPosition q → (morton
 -- the cell of x at a level is the set of the positions whose floored coordinates there equal those of x
 abbrev pub CellsHaveEqualFloors : Type 0
 CellsHaveEqualFloors =
-    (p x : Position) (level : ℕ) → IsPosition p → IsPosition x → level ≤ 30 → IsIn p (cell_at x level) ↔ HaveEqualFloors level p x
+    (p x : Position) (level : ℕ) → IsPosition p → IsPosition x → level ≤ DEEPEST → IsIn p (cell_at x level) ↔ HaveEqualFloors level p x
 
 -- a position has a cell at each level
 abbrev pub PositionsHaveCells : Type 0
-PositionsHaveCells = (p : Position) (level : ℕ) → IsPosition p → level ≤ 30 → IsCell (cell_at p level)
+PositionsHaveCells = (p : Position) (level : ℕ) → IsPosition p → level ≤ DEEPEST → IsCell (cell_at p level)
 
 -- the keys of a cell's positions are a run without gaps
 abbrev pub CellsAreKeyRanges : Type 0
 CellsAreKeyRanges =
-    (p : Position) (c : Octant) → IsPosition p → IsCell c → IsIn p c ↔ ((c.key * 8 ^ (30 - c.level) ≤ morton_key p) × (morton_key p < (c.key + 1) * 8 ^ (30 - c.level)))
+    (p : Position) (c : Octant) → IsPosition p → IsCell c → IsIn p c ↔ ((c.key * 8 ^ (DEEPEST - c.level) ≤ morton_key p) × (morton_key p < (c.key + 1) * 8 ^ (DEEPEST - c.level)))
 
 -- the cells of a position lie in one another: the one of a lower level is the ancestor of the other
 abbrev pub CellsOfAPositionNest : Type 0
 CellsOfAPositionNest =
-    (p : Position) (lower higher : ℕ) → lower ≤ higher → higher ≤ 30 → ancestor_at (cell_at p higher) lower ≡ cell_at p lower
+    (p : Position) (lower higher : ℕ) → lower ≤ higher → higher ≤ DEEPEST → ancestor_at (cell_at p higher) lower ≡ cell_at p lower
 
 -- a cell lies inside another exactly where that is its ancestor
 abbrev pub CellsNest : Type 0
@@ -42,12 +43,12 @@ CellsNest =
 -- the corner of the cell of a position has the position's coordinates, floored to multiples of the side
 abbrev pub CornersAreFloors : Type 0
 CornersAreFloors =
-    (p : Position) (level : ℕ) → IsPosition p → level ≤ 30 → corner_of (cell_at p level) ≡ floor_at p level
+    (p : Position) (level : ℕ) → IsPosition p → level ≤ DEEPEST → corner_of (cell_at p level) ≡ floor_at p level
 
 -- the corner of a cell is a position in it, and has the least key there
 abbrev pub CornersLieInside : Type 0
 CornersLieInside =
-    (c : Octant) → IsCell c → IsPosition (corner_of c) × IsCornerOf c (corner_of c) × (morton_key (corner_of c) ≡ c.key * 8 ^ (30 - c.level))
+    (c : Octant) → IsCell c → IsPosition (corner_of c) × IsCornerOf c (corner_of c) × (morton_key (corner_of c) ≡ c.key * 8 ^ (DEEPEST - c.level))
 
 -- the closed box of a cell holds exactly the positions of the cell
 abbrev pub ClosedBoxesHoldTheirCells : Type 0

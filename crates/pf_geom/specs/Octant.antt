@@ -1,5 +1,6 @@
 -- Cells: at each level from 0 to 30 the cube is cut into 8 ^ level equal cubes.
 use Rattle.std.specs.Prelude.{◌≡◌, ℕ, ◌+◌, ◌-◌, ◌*◌, ◌/◌, ◌^◌, ◌<◌, ◌≤◌}
+use Rattle.pf_geom.specs.declared.cell.TheConstants.{DEEPEST}
 use Rattle.pf_geom.specs.Position.{Position, IsPosition}
 use Rattle.pf_geom.specs.Bounds.{Bounds}
 use Rattle.pf_geom.specs.Key.{morton_key, position_of_key}
@@ -11,7 +12,7 @@ pub record Octant : Type 0 where
 
 -- a level is at most 30, and the keys of its cells are below 8 ^ level
 pub record IsOctant (level key : ℕ) : Type 0 where
-  pub level_fits : level ≤ 30
+  pub level_fits : level ≤ DEEPEST
   pub key_fits : key < 8 ^ level
 
 -- a cell that a `Cell` can be
@@ -20,7 +21,7 @@ IsCell c = IsOctant c.level c.key
 
 -- the side of the cells of a level
 abbrev pub side_at : ℕ → ℕ
-side_at level = 2 ^ (30 - level)
+side_at level = 2 ^ (DEEPEST - level)
 
 -- the coordinates of two positions, divided by the side of a level and floored, are equal
 pub record HaveEqualFloors (level : ℕ) (p q : Position) : Type 0 where
@@ -30,7 +31,7 @@ pub record HaveEqualFloors (level : ℕ) (p q : Position) : Type 0 where
 
 -- the cell of a position at a level: its key is the position's, shifted right by 3(30 - level)
 abbrev pub cell_at : Position → ℕ → Octant
-cell_at p level = record { level = level; key = morton_key p / 8 ^ (30 - level) }
+cell_at p level = record { level = level; key = morton_key p / 8 ^ (DEEPEST - level) }
 
 -- the position lies in the cell
 abbrev pub IsIn : Position → Octant → Type 0
@@ -56,7 +57,7 @@ floor_at p level =
 
 -- the corner of a cell: the position whose key is the cell's, followed by 3(30 - level) zeros
 unfoldable pub corner_of : Octant → Position
-corner_of c = position_of_key (c.key * 8 ^ (30 - c.level))
+corner_of c = position_of_key (c.key * 8 ^ (DEEPEST - c.level))
 
 -- the corner of a cell lies in it, and its coordinates are multiples of the side
 pub record IsCornerOf (c : Octant) (p : Position) : Type 0 where

@@ -3,8 +3,11 @@ ghost use Rattle.pf_geom.specs.Octant.{side_at, cell_at, IsIn, corner_of, IsCorn
 
 use crate::box3::Box3;
 use crate::key::{gather, key_of};
-use crate::point::{COORDINATE_BITS, Point};
+use crate::point::Point;
 use std::marker::Model;
+
+/// The deepest level of cells, whose side is 1.
+pub const DEEPEST: u32 = 30;
 
 /// A cell of the octree over the cube: one of the 8^level cubes of side 2^(30 - level) of its level,
 /// from 0 to 30. The key is that of any point in it, shifted right by 3(30 - level) bits. Cells are
@@ -29,12 +32,12 @@ impl Model for Cell {
 
 /// The cell of a point at a level.
 pub fn cell_of(p: Point, level: u32) -> Cell
-    requires { level ≤ 30 }
+    requires { level ≤ DEEPEST }
     ensures { result ≡ cell_at p level }
 {
     Cell {
         level,
-        key: key_of(p) >> (3 * (COORDINATE_BITS - level)),
+        key: key_of(p) >> (3 * (DEEPEST - level)),
     }
 }
 
@@ -59,10 +62,10 @@ pub fn side(c: Cell) -> u32
 }
 
 fn side_of(level: u32) -> u32
-    requires { level ≤ 30 }
+    requires { level ≤ DEEPEST }
     ensures { result ≡ side_at level }
 {
-    1 << (COORDINATE_BITS - level)
+    1 << (DEEPEST - level)
 }
 
 /// Whether a point lies in a cell.

@@ -23,7 +23,8 @@ pub fn gap2_round(b: Box3, c: Cell) -> u128
     gap2_across(Edge::Periodic, b, c)
 }
 
-fn gap2_across(edge: Edge, b: Box3, c: Cell) -> u128
+/// The squared gap between a box and a cell, by what lies past the edge of the cube.
+pub fn gap2_across(edge: Edge, b: Box3, c: Cell) -> u128
     ensures value { result ≡ gap2_to edge b c }
     ensures fits { result < 3 * 2 ^ 60 }
 {

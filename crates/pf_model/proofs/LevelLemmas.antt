@@ -9,15 +9,15 @@ use Rattle.pf_model.specs.Interaction.{passes, level_of}
 use Rattle.pf_model.specs.ListLaws.{IsFirstPassing, NonePasses}
 use Rattle.pf_model.proofs.LeastLemmas.{IsLeast, IsLeast-least_below, least_below-from_IsLeast}
 
-pub Passes-from_test : (t : Criterion) (box : Bounds) (c : Octant) → passes t box c ≡ true → Passes t box c
-Passes-from_test t box c e = leb-true _ _ e
+pub Passes-from_test : (box : Bounds) (c : Octant) (t : Criterion) → passes box c t ≡ true → Passes box c t
+Passes-from_test box c t e = leb-true _ _ e
 
-pub test-from_Passes : (t : Criterion) (box : Bounds) (c : Octant) → Passes t box c → passes t box c ≡ true
-test-from_Passes t box c h = le-leb _ _ h
+pub test-from_Passes : (box : Bounds) (c : Octant) (t : Criterion) → Passes box c t → passes box c t ≡ true
+test-from_Passes box c t h = le-leb _ _ h
 
 -- whether the position's cell passes at a level
 abbrev pub passes_at : Criterion → Bounds → Position → ℕ → Bool
-passes_at t box p = λ level. passes t box (cell_at p level)
+passes_at t box p = λ level. passes box (cell_at p level) t
 
 pub least_from_level : (t : Criterion) (box : Bounds) (p : Position) (o : Option ℕ) → level_of t box p ≡ o → IsLeast (passes_at t box p) 31 o
 unfolding level_of
@@ -29,11 +29,11 @@ level_from_least t box p o h = least_below-from_IsLeast (passes_at t box p) 31 o
 
 pub none_from_level : (t : Criterion) (box : Bounds) (p : Position) → level_of t box p ≡ None → NonePasses t box p
 none_from_level t box p e level within h =
-    both_ways (passes_at t box p level) (least_from_level t box p None e level (omega arith)) (test-from_Passes t box (cell_at p level) h)
+    both_ways (passes_at t box p level) (least_from_level t box p None e level (omega arith)) (test-from_Passes box (cell_at p level) t h)
 
 pub level_from_none : (t : Criterion) (box : Bounds) (p : Position) → NonePasses t box p → level_of t box p ≡ None
 level_from_none t box p h =
-    level_from_least t box p None (λ i below. false_from_ne_true (passes_at t box p i) (λ e. h i (omega arith) (Passes-from_test t box (cell_at p i) e)))
+    level_from_least t box p None (λ i below. false_from_ne_true (passes_at t box p i) (λ e. h i (omega arith) (Passes-from_test box (cell_at p i) t e)))
 
 pub first_from_level : (t : Criterion) (box : Bounds) (p : Position) (level : ℕ) → level_of t box p ≡ Some level → IsFirstPassing t box p level
 first_from_level t box p level e =
@@ -41,11 +41,11 @@ first_from_level t box p level e =
     let below : level < 31 = least.0 in
     record {
       within = omega arith;
-      passes = Passes-from_test t box (cell_at p level) least.1;
-      lowest = λ lower less h. both_ways (passes_at t box p lower) (least.2 lower less) (test-from_Passes t box (cell_at p lower) h);
+      passes = Passes-from_test box (cell_at p level) t least.1;
+      lowest = λ lower less h. both_ways (passes_at t box p lower) (least.2 lower less) (test-from_Passes box (cell_at p lower) t h);
     }
 
 pub level_from_first : (t : Criterion) (box : Bounds) (p : Position) (level : ℕ) → IsFirstPassing t box p level → level_of t box p ≡ Some level
 level_from_first t box p level h =
     level_from_least t box p (Some level)
-    (let within = h.within in omega arith, test-from_Passes t box (cell_at p level) h.passes, λ i less. false_from_ne_true (passes_at t box p i) (λ e. h.lowest i less (Passes-from_test t box (cell_at p i) e)))
+    (let within = h.within in omega arith, test-from_Passes box (cell_at p level) t h.passes, λ i less. false_from_ne_true (passes_at t box p i) (λ e. h.lowest i less (Passes-from_test box (cell_at p i) t e)))

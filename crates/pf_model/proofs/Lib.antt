@@ -7,3 +7,6 @@ mod LevelLemmas
 mod MomentLemmas
 mod GroupLemmas
 mod OrderlessSums
+mod DifferenceLemmas
+mod BoxLemmas
+mod RankLemmas

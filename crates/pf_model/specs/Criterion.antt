@@ -22,5 +22,5 @@ abbrev pub IsCriterion : Criterion → Type 0
 IsCriterion t = IsAngle t.a t.b
 
 -- seen from the box, the cell's side is at most a/b of the gap: both are squared, and multiplied out
-abbrev pub Passes : Criterion → Bounds → Octant → Type 0
-Passes t box c = square (side_at c.level) * square t.b ≤ gap2_to t.edge box c * square t.a
+abbrev pub Passes : Bounds → Octant → Criterion → Type 0
+Passes box c t = square (side_at c.level) * square t.b ≤ gap2_to t.edge box c * square t.a

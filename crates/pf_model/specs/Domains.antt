@@ -1,11 +1,80 @@
 -- Domains: the multisection of the cube among ranks.
-use Rattle.std.specs.Prelude.{ℕ, zero, suc, ◌+◌, ◌-◌, ◌*◌, ◌/◌, ◌%◌, ◌^◌, Bool, ◌&&◌, ◌||◌, List, length, map, filter, count_by, slice_index_or, nat_lt, nat_le, nat_eq}
-use Rattle.std.specs.List.{range_with_len}
+use Rattle.std.specs.Prelude.{◌≡◌, ℕ, zero, suc, ◌+◌, ◌-◌, ◌*◌, ◌/◌, ◌%◌, ◌^◌, ◌<◌, ◌≤◌, Bool, ◌&&◌, ◌||◌, List, length, map, filter, take, drop, count_by, slice_index_or, All, nat_lt, nat_le, nat_eq}
+use Rattle.std.specs.List.{range_with_len, flat_map}
+use Rattle.std.specs.List.Sorted.{IsNonDecreasing}
 use Rattle.pf_geom.specs.Position.{Position}
 use Rattle.pf_geom.specs.Bounds.{Bounds}
 use Rattle.pf_model.specs.Particle.{Particle}
-use Rattle.pf_model.specs.Division.{Division}
+use Rattle.pf_model.specs.Division.{Division, IsDivision}
 use Rattle.pf_model.specs.Order.{in_order}
+
+-- a multisection as clauses see it: the cuts along x, then those along y in each slab of x, and then those along
+-- z in each column of each slab
+pub record Multisection : Type 0 where
+  pub grid : Division
+  pub x : List ℕ
+  pub y : List ℕ
+  pub z : List ℕ
+
+-- run k, counted from 0, of the runs of one length that a list is made of
+abbrev pub run_at : ℕ → List ℕ → ℕ → List ℕ
+run_at len cuts k = take len (drop (k * len) cuts)
+
+-- the cuts along y in a slab
+abbrev pub cuts_in_slab : Multisection → ℕ → List ℕ
+cuts_in_slab s ix = run_at (s.grid.ny - 1) s.y ix
+
+-- the cuts along z in a column of the slab
+abbrev pub cuts_in_column : Multisection → ℕ → ℕ → List ℕ
+cuts_in_column s ix iy = run_at (s.grid.nz - 1) s.z (ix * s.grid.ny + iy)
+
+-- so many cuts in ascending order, of which some may be equal: each is a coordinate, or the side of the cube
+pub record AreCuts (count : ℕ) (cuts : List ℕ) : Type 0 where
+  pub counted : length cuts ≡ count
+  pub ascending : IsNonDecreasing cuts
+  pub inside : All (λ cut. cut ≤ 2 ^ 30) cuts
+
+-- a multisection of the cube
+pub record IsMultisection (s : Multisection) : Type 0 where
+  pub division : IsDivision s.grid
+  pub along_x : AreCuts (s.grid.nx - 1) s.x
+  pub along_y : (ix : ℕ) → ix < s.grid.nx → AreCuts (s.grid.ny - 1) (cuts_in_slab s ix)
+  pub along_z : (ix iy : ℕ) → ix < s.grid.nx → iy < s.grid.ny → AreCuts (s.grid.nz - 1) (cuts_in_column s ix iy)
+  pub slabs : length s.y ≡ s.grid.nx * (s.grid.ny - 1)
+  pub columns : length s.z ≡ s.grid.nx * s.grid.ny * (s.grid.nz - 1)
+
+-- the slab of a coordinate: the number of cuts that are at most it
+abbrev pub slab_of : List ℕ → ℕ → ℕ
+slab_of cuts n = count_by (λ cut. nat_le cut n) cuts
+
+-- the rank that owns a position, by the cuts
+unfoldable pub owner_by : Multisection → Position → ℕ
+owner_by s p =
+    let ix = slab_of s.x p.x in
+    let iy = slab_of (cuts_in_slab s ix) p.y in
+    let iz = slab_of (cuts_in_column s ix iy) p.z in
+    (ix * s.grid.ny + iy) * s.grid.nz + iz
+
+-- the lowest and the highest coordinate of a slab, where it isn't empty
+abbrev pub slab_start : List ℕ → ℕ → ℕ
+slab_start cuts zero = 0
+slab_start cuts (suc k) = slice_index_or cuts k (2 ^ 30)
+
+abbrev pub slab_end : List ℕ → ℕ → ℕ
+slab_end cuts k = slice_index_or cuts k (2 ^ 30) - 1
+
+-- the domain box of a rank by the cuts, where it owns a position: all positions that it owns
+unfoldable pub box_by : Multisection → ℕ → Bounds
+box_by s rank =
+    let ix = rank / s.grid.nz / s.grid.ny in
+    let iy = rank / s.grid.nz % s.grid.ny in
+    let iz = rank % s.grid.nz in
+    let y = cuts_in_slab s ix in
+    let z = cuts_in_column s ix iy in
+    record {
+      lo = record { x = slab_start s.x ix; y = slab_start y iy; z = slab_start z iz };
+      hi = record { x = slab_end s.x ix; y = slab_end y iy; z = slab_end z iz };
+    }
 
 -- the order of (coordinate, id) along an axis
 abbrev pub comes_first : (Position → ℕ) → Particle → Particle → Bool
@@ -22,10 +91,6 @@ cut_before along js m k = slice_index_or (coordinates_of along js) (length js * 
 -- the cuts before the slabs 1 to m - 1
 abbrev pub cuts_of : (Position → ℕ) → List Particle → ℕ → List ℕ
 cuts_of along js m = map (cut_before along js m) (range_with_len 1 (m - 1))
-
--- the slab of a coordinate: the number of cuts that are at most it
-abbrev pub slab_of : List ℕ → ℕ → ℕ
-slab_of cuts n = count_by (λ cut. nat_le cut n) cuts
 
 -- the cuts along x, over all particles
 abbrev pub x_cuts : Division → List Particle → List ℕ
@@ -47,33 +112,23 @@ in_column g js ix iy = filter (λ j. nat_eq (slab_of (y_cuts g js ix) j.at.y) iy
 abbrev pub z_cuts : Division → List Particle → ℕ → ℕ → List ℕ
 z_cuts g js ix iy = cuts_of (λ p. p.z) (in_column g js ix iy) g.nz
 
+-- the multisection that particles make
+unfoldable pub cuts_for : Division → List Particle → Multisection
+cuts_for g js = record {
+  grid = g;
+  x = x_cuts g js;
+  y = flat_map (y_cuts g js) (range_with_len 0 g.nx);
+  z = flat_map (λ ix. flat_map (z_cuts g js ix) (range_with_len 0 g.ny)) (range_with_len 0 g.nx);
+}
+
 -- the rank that owns a position
 unfoldable pub owner : Division → List Particle → Position → ℕ
-owner g js p =
-    let ix = slab_of (x_cuts g js) p.x in
-    let iy = slab_of (y_cuts g js ix) p.y in
-    let iz = slab_of (z_cuts g js ix iy) p.z in
-    (ix * g.ny + iy) * g.nz + iz
+owner g js p = owner_by (cuts_for g js) p
 
 -- the particles that a rank owns
 abbrev pub particles_of : Division → List Particle → ℕ → List Particle
 particles_of g js rank = filter (λ j. nat_eq (owner g js j.at) rank) js
 
--- the lowest and the highest coordinate of a slab, where it isn't empty
-abbrev pub slab_start : List ℕ → ℕ → ℕ
-slab_start cuts zero = 0
-slab_start cuts (suc k) = slice_index_or cuts k (2 ^ 30)
-
-abbrev pub slab_end : List ℕ → ℕ → ℕ
-slab_end cuts k = slice_index_or cuts k (2 ^ 30) - 1
-
--- the domain box of a rank, where it owns a position: all positions that it owns
+-- the domain box of a rank
 unfoldable pub domain_box : Division → List Particle → ℕ → Bounds
-domain_box g js rank =
-    let ix = rank / g.nz / g.ny in
-    let iy = rank / g.nz % g.ny in
-    let iz = rank % g.nz in
-    record {
-      lo = record { x = slab_start (x_cuts g js) ix; y = slab_start (y_cuts g js ix) iy; z = slab_start (z_cuts g js ix iy) iz };
-      hi = record { x = slab_end (x_cuts g js) ix; y = slab_end (y_cuts g js ix) iy; z = slab_end (z_cuts g js ix iy) iz };
-    }
+domain_box g js rank = box_by (cuts_for g js) rank

@@ -1,5 +1,6 @@
 -- Interaction lists: each particle is judged by itself.
-use Rattle.std.specs.Prelude.{ℕ, ◌*◌, Bool, true, false, ◌&&◌, ◌||◌, List, [], ◌∷◌, map, filter, Option, Some, None, is_none, nat_lt, nat_le, nat_eq}
+use Rattle.std.specs.Prelude.{ℕ, ◌+◌, ◌*◌, Bool, true, false, ◌&&◌, ◌||◌, List, [], ◌∷◌, map, filter, Option, Some, None, is_none, nat_lt, nat_le, nat_eq, IsTrue, AllPairs}
+use Rattle.pf_geom.specs.declared.cell.TheConstants.{DEEPEST}
 use Rattle.pf_geom.specs.Position.{Position}
 use Rattle.pf_geom.specs.Bounds.{Bounds}
 use Rattle.pf_geom.specs.Octant.{Octant, side_at, cell_at}
@@ -13,12 +14,12 @@ use Rattle.pf_model.specs.Order.{least_below, in_order}
 use Rattle.pf_model.specs.Sums.{moment_of, source_of}
 
 -- whether `Passes` holds
-abbrev pub passes : Criterion → Bounds → Octant → Bool
-passes t box c = nat_le (square (side_at c.level) * square t.b) (gap2_to t.edge box c * square t.a)
+abbrev pub passes : Bounds → Octant → Criterion → Bool
+passes box c t = nat_le (square (side_at c.level) * square t.b) (gap2_to t.edge box c * square t.a)
 
--- the least level, from 0 to 30, at which the position's cell passes, if there is one
+-- the least level at which the position's cell passes, if there is one
 unfoldable pub level_of : Criterion → Bounds → Position → Option ℕ
-level_of t box p = least_below (λ level. passes t box (cell_at p level)) 31
+level_of t box p = least_below (λ level. passes box (cell_at p level) t) (DEEPEST + 1)
 
 abbrev pub is_cell : Octant → Octant → Bool
 is_cell c d = nat_eq c.level d.level && nat_eq c.key d.key
@@ -48,6 +49,10 @@ comes_before (Cell c m) (Cell d n) = nat_lt c.level d.level || (nat_eq c.level d
 comes_before (Cell c m) (One q) = true
 comes_before (One p) (Cell d n) = false
 comes_before (One p) (One q) = nat_lt p.id q.id
+
+-- each entry comes before all later ones
+abbrev pub IsInListOrder : List Entry → Type 0
+IsInListOrder es = AllPairs (λ e f. IsTrue (comes_before e f)) es
 
 -- the list of a box over the particles js: the entries that they lead to, each once, in order
 unfoldable pub list_of : Criterion → Bounds → List Particle → List Entry

@@ -10,9 +10,13 @@ pub mod Interaction
 pub mod Group
 pub mod Domains
 pub mod EssentialTree
+pub mod Groups
+pub mod Reuse
+pub mod Fields
 pub mod Laws
 pub mod ListLaws
 pub mod MomentLaws
+pub mod DomainLaws
 pub use Rattle.pf_geom.specs.Position
 pub use Rattle.pf_geom.specs.Bounds
 pub use Rattle.pf_geom.specs.Octant

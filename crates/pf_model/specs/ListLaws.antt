@@ -1,5 +1,6 @@
 -- Laws of interaction lists.
-use Rattle.std.specs.Prelude.{◌≡◌, ℕ, ◌<◌, ◌≤◌, ◌↔◌, List, length, Some, None, IsTrue, Contains, AllPairs, slice_index_or}
+use Rattle.std.specs.Prelude.{◌≡◌, ℕ, ◌<◌, ◌≤◌, ◌↔◌, List, length, Some, None, Contains, slice_index_or}
+use Rattle.pf_geom.specs.declared.cell.TheConstants.{DEEPEST}
 use Rattle.pf_geom.specs.Position.{Position}
 use Rattle.pf_geom.specs.Bounds.{Bounds}
 use Rattle.pf_geom.specs.Octant.{cell_at}
@@ -7,17 +8,17 @@ use Rattle.pf_model.specs.declared.entry.Entry.{Entry}
 use Rattle.pf_model.specs.Particle.{Particle}
 use Rattle.pf_model.specs.Particles.{HaveDistinctIds}
 use Rattle.pf_model.specs.Criterion.{Criterion, Passes}
-use Rattle.pf_model.specs.Interaction.{level_of, entry_of, comes_before, list_of, members_of}
+use Rattle.pf_model.specs.Interaction.{level_of, entry_of, IsInListOrder, list_of, members_of}
 
 -- the position's cell passes at this level, and at no lower one
 pub record IsFirstPassing (t : Criterion) (box : Bounds) (p : Position) (level : ℕ) : Type 0 where
-  pub within : level ≤ 30
-  pub passes : Passes t box (cell_at p level)
-  pub lowest : (lower : ℕ) → lower < level → Passes t box (cell_at p lower) → ⊥
+  pub within : level ≤ DEEPEST
+  pub passes : Passes box (cell_at p level) t
+  pub lowest : (lower : ℕ) → lower < level → Passes box (cell_at p lower) t → ⊥
 
 -- none of the position's cells passes
 abbrev pub NonePasses : Criterion → Bounds → Position → Type 0
-NonePasses t box p = (level : ℕ) → level ≤ 30 → Passes t box (cell_at p level) → ⊥
+NonePasses t box p = (level : ℕ) → level ≤ DEEPEST → Passes box (cell_at p level) t → ⊥
 
 -- the level of a position is the least at which its cell passes
 abbrev pub LevelsAreLeast : Type 0
@@ -26,7 +27,7 @@ LevelsAreLeast =
 
 -- the entries that the particles js lead to, each once, in order
 pub record IsListOf (t : Criterion) (box : Bounds) (js : List Particle) (es : List Entry) : Type 0 where
-  pub ordered : AllPairs (λ e f. IsTrue (comes_before e f)) es
+  pub ordered : IsInListOrder es
   pub complete : (j : Particle) → Contains js j → Contains es (entry_of t box js j)
   pub sound : (e : Entry) → Contains es e → (j : Particle) × Contains js j × (e ≡ entry_of t box js j)
 

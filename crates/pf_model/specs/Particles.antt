@@ -1,8 +1,19 @@
 -- Lists of particles.
-use Rattle.std.specs.Prelude.{List, map, nat_eq}
+use Rattle.std.specs.Prelude.{◌≤◌, List, length, map, nat_eq, nat_lt}
 use Rattle.std.specs.List.{IsDistinct}
+use Rattle.pf_model.specs.declared.limits.TheConstants.{MOST_PARTICLES}
 use Rattle.pf_model.specs.Particle.{Particle}
+use Rattle.pf_model.specs.Order.{in_order}
 
 -- no two particles have one id
 abbrev pub HaveDistinctIds : List Particle → Type 0
 HaveDistinctIds js = IsDistinct nat_eq (map (λ j. j.id) js)
+
+-- the particles that a run can have: few, and of distinct ids
+pub record AreBodies (js : List Particle) : Type 0 where
+  pub few : length js ≤ MOST_PARTICLES
+  pub distinct : HaveDistinctIds js
+
+-- the particles in the order of their ids
+abbrev pub by_id : List Particle → List Particle
+by_id js = in_order (λ p q. nat_lt p.id q.id) js

@@ -1,7 +1,7 @@
 -- The moment of particles, and what a kernel sees of them.
-use Rattle.std.specs.Prelude.{ℕ, ◌+◌, ◌*◌, ◌/◌, ℤ, pos, ◌+ℤ◌, List, [], ◌∷◌, length, sum_by, slice_index, slice_index_or}
+use Rattle.std.specs.Prelude.{◌≡◌, ℕ, ◌+◌, ◌*◌, ◌/◌, ℤ, pos, ◌+ℤ◌, ◌-ℤ◌, List, [], ◌∷◌, length, sum_by, slice_index, slice_index_or}
 use Rattle.pf_model.specs.Particle.{Particle}
-use Rattle.pf_model.specs.Totals.{Totals, Source}
+use Rattle.pf_model.specs.Totals.{Totals, IsTotals, Source}
 
 -- the sum of a whole number of each
 abbrev pub int_sum_by : {X : Type 0} → (X → ℤ) → List X → ℤ
@@ -43,6 +43,17 @@ together m n =
       weighted = weighted 0 ∷ weighted 1 ∷ weighted 2 ∷ [];
       attr = pairwise_sums m.attr n.attr;
     }
+
+-- the differences of two lists, place by place
+abbrev pub pairwise_differences : List ℤ → List ℤ → List ℤ
+pairwise_differences [] bs = []
+pairwise_differences (a ∷ more) [] = []
+pairwise_differences (a ∷ more) (b ∷ bs) = (a -ℤ b) ∷ pairwise_differences more bs
+
+-- the moment of the others, where `all` is the moment of `some` and others
+pub record IsRest (all some rest : Totals) : Type 0 where
+  pub limits : IsTotals rest
+  pub makes : all ≡ together some rest
 
 -- the source that particles with this moment are: its centre is, along each axis, the floor of the weighted sum over the mass
 abbrev pub source_of : Totals → Source

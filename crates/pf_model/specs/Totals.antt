@@ -1,6 +1,7 @@
 -- Sums over particles, and the limits that every such sum keeps.
 use Rattle.std.specs.Prelude.{◌≡◌, ℕ, ◌-◌, ◌*◌, ◌^◌, ◌≤◌, ℤ, unsigned_abs, List, length, All}
 use Rattle.pf_geom.specs.Position.{Position, IsPosition}
+use Rattle.pf_model.specs.declared.limits.TheConstants.{MOST_PARTICLES}
 
 -- the moment of particles as clauses see it: how many they are, and the sums of their masses, of mass
 -- times coordinate along x, y and z, and of their attributes c0 to c7
@@ -10,9 +11,9 @@ pub record Totals : Type 0 where
   pub weighted : List ℕ
   pub attr : List ℤ
 
--- the mass and the attributes of at most 65,536 particles
+-- the mass and the attributes of that many particles
 pub record IsSumOf (count mass : ℕ) (attr : List ℤ) : Type 0 where
-  pub few : count ≤ 65536
+  pub few : count ≤ MOST_PARTICLES
   pub heavy : count ≤ mass
   pub light : mass ≤ count * (2 ^ 31 - 1)
   pub small : All (λ a. unsigned_abs a ≤ count * 2 ^ 40) attr

@@ -1,8 +1,8 @@
-ghost use Rattle.std.specs.Prelude.{◌≡◌, ◌≤◌, List, [], length};
+ghost use Rattle.std.specs.Prelude.{◌≡◌, List, []};
 ghost use Rattle.std.proofs.Common.{lit≤};
 ghost use Rattle.pf_geom.specs.declared.edge.Edge.TheVariants.{Open};
 ghost use Rattle.pf_model.specs.Particle.{Particle};
-ghost use Rattle.pf_model.specs.Particles.{HaveDistinctIds};
+ghost use Rattle.pf_model.specs.Particles.{AreBodies};
 ghost use Rattle.pf_model.specs.Criterion.{Criterion, IsCriterion};
 ghost use Rattle.pf_model.specs.Division.{Division, IsDivision};
 ghost use Rattle.pf_model.specs.EssentialTree.{essential_tree};
@@ -15,9 +15,7 @@ pub trait Terms {
     // the particles of all ranks
     ghost particles: { List Particle };
 
-    ghost few: { length particles ≤ 65536 };
-
-    ghost distinct: { HaveDistinctIds particles };
+    ghost are_bodies: { AreBodies particles };
 
     // how the cube is divided among the ranks
     ghost grid: { Division };
@@ -35,9 +33,7 @@ impl Terms for Brand {
 
     ghost particles = { [] };
 
-    ghost few = { lit≤ tt };
-
-    ghost distinct = { no_particles_differ };
+    ghost are_bodies = { record { few = lit≤ tt; distinct = no_particles_differ } };
 
     ghost grid = { record { nx = 1; ny = 1; nz = 1 } };
 

@@ -1,7 +1,7 @@
 use std::marker::Model;
 
 /// How the cube is divided among ranks: into `nx` slabs along x, each into `ny` columns along y, each
-/// into `nz` boxes along z. All are at least 1, and the boxes are at most 64.
+/// into `nz` boxes along z. All are at least 1, and the boxes are at most `MOST_RANKS`.
 #[derive(Clone, Copy, Debug, PartialEq, Eq)]
 pub struct Grid {
     pub nx: u32,

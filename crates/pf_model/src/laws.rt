@@ -3,7 +3,8 @@
 
 ghost use Rattle.pf_model.specs.Laws.{CellsPassForBoxesInside, CellsInsidePass, PassingCellsLieApart};
 ghost use Rattle.pf_model.specs.ListLaws.{LevelsAreLeast, ListsHoldTheirEntries, EachIsInOneEntry};
-ghost use Rattle.pf_model.specs.MomentLaws.{MomentsAddUp, MomentsIgnoreOrder, ListsIgnoreOrder};
+ghost use Rattle.pf_model.specs.MomentLaws.{MomentsAddUp, MomentsCancel, MomentsIgnoreOrder, ListsIgnoreOrder};
+ghost use Rattle.pf_model.specs.DomainLaws.{OwnersAreRanks, OwnersByCutsAreRanks, OneRankHasItsOwn, AllRanksHaveAll, LoneRanksHaveAll};
 
 use pf_geom::{
     cells_nest, gaps_grow_as_boxes_shrink, gaps_grow_as_cells_shrink, gaps_vanish_where_shared,
@@ -51,6 +52,11 @@ pub fn moments_add_up()
     ensures { MomentsAddUp }
 {}
 
+/// Particles that have the same moment together with others have the same moment.
+pub fn moments_cancel()
+    ensures { MomentsCancel }
+{}
+
 /// The order of particles changes nothing in their moment.
 pub fn moments_ignore_order()
     ensures { MomentsIgnoreOrder }
@@ -59,4 +65,29 @@ pub fn moments_ignore_order()
 /// The order of particles changes nothing in a list over them.
 pub fn lists_ignore_order()
     ensures { ListsIgnoreOrder }
+{}
+
+/// The owner of a position is one of the ranks.
+pub fn owners_are_ranks()
+    ensures { OwnersAreRanks }
+{}
+
+/// The owner of a position by the cuts of a multisection is one of its ranks.
+pub fn owners_by_cuts_are_ranks()
+    ensures { OwnersByCutsAreRanks }
+{}
+
+/// A list of one rank has the particles of this rank.
+pub fn one_rank_has_its_own()
+    ensures { OneRankHasItsOwn }
+{}
+
+/// A list of all ranks has all particles.
+pub fn all_ranks_have_all()
+    ensures { AllRanksHaveAll }
+{}
+
+/// Where there is one rank, it owns every position, and has all particles.
+pub fn lone_ranks_have_all()
+    ensures { LoneRanksHaveAll }
 {}

@@ -5,9 +5,12 @@
 mod body;
 mod entry;
 mod ess_tree;
+mod field;
 mod grid;
 mod item;
 mod laws;
+mod least_box;
+mod limits;
 mod moment;
 mod plain_group;
 mod plain_list;
@@ -17,13 +20,17 @@ mod theta;
 pub use body::Body;
 pub use entry::Entry;
 pub use ess_tree::{EssTree, Terms};
+pub use field::Field;
 pub use grid::Grid;
 pub use item::Item;
 pub use laws::{
-    cells_inside_pass, cells_pass_for_boxes_inside, each_is_in_one_entry, levels_are_least,
-    lists_hold_their_entries, lists_ignore_order, moments_add_up, moments_ignore_order,
-    passing_cells_lie_apart,
+    all_ranks_have_all, cells_inside_pass, cells_pass_for_boxes_inside, each_is_in_one_entry,
+    levels_are_least, lists_hold_their_entries, lists_ignore_order, lone_ranks_have_all,
+    moments_add_up, moments_cancel, moments_ignore_order, one_rank_has_its_own, owners_are_ranks,
+    owners_by_cuts_are_ranks, passing_cells_lie_apart,
 };
+pub use least_box::box_of;
+pub use limits::{MOST_GROUP, MOST_PARTICLES, MOST_RANKS};
 pub use moment::Moment;
 pub use plain_group::slow_group;
 pub use plain_list::slow_list;

@@ -1,7 +1,9 @@
 ghost use Rattle.std.specs.Prelude.{◌≡◌, ◌+◌, ◌^◌, ◌≤◌, [], ◌∷◌, unsigned_abs, All};
-ghost use Rattle.pf_model.specs.Sums.{moment_of, together, pairwise_sums};
+ghost use Rattle.pf_model.specs.Totals.{Totals};
+ghost use Rattle.pf_model.specs.Sums.{moment_of, together, pairwise_sums, pairwise_differences, IsRest};
 
 use crate::body::Body;
+use crate::limits::MOST_PARTICLES;
 use std::marker::Model;
 
 /// The sums over some particles, at most 65,536, within the limits that follow from theirs.
@@ -60,7 +62,7 @@ impl Moment {
 
     /// The moment of some particles and others, from those of both.
     pub fn merge(self, other: Moment) -> Moment
-        requires { self.count + other.count ≤ 65536 }
+        requires { self.count + other.count ≤ MOST_PARTICLES }
         ensures { result ≡ together self other }
     {
         let (w, v) = (self.weighted, other.weighted);
@@ -69,6 +71,20 @@ impl Moment {
             mass: self.mass + other.mass,
             weighted: [w[0] + v[0], w[1] + v[1], w[2] + v[2]],
             attr: attribute_sums(self.attr, other.attr),
+        }
+    }
+
+    /// The moment of the others, from that of all together and that of some.
+    pub fn without(self, some: Moment) -> Moment
+        requires { (rest : Totals) × IsRest self some rest }
+        ensures { (rest : Totals) → IsRest self some rest → result ≡ rest }
+    {
+        let (w, v) = (self.weighted, some.weighted);
+        Moment {
+            count: self.count - some.count,
+            mass: self.mass - some.mass,
+            weighted: [w[0] - v[0], w[1] - v[1], w[2] - v[2]],
+            attr: attribute_differences(self.attr, some.attr),
         }
     }
 }
@@ -84,4 +100,17 @@ fn attribute_sums(a: [i64; 8], b: [i64; 8]) -> [i64; 8]
         sums[k] = a[k] + b[k];
     }
     sums
+}
+
+// The differences of the attributes, each from its own.
+fn attribute_differences(a: [i64; 8], b: [i64; 8]) -> [i64; 8]
+    requires a_fits { All (λ n. unsigned_abs n ≤ 2 ^ 56) a }
+    requires b_fits { All (λ n. unsigned_abs n ≤ 2 ^ 56) b }
+    ensures { result ≡ pairwise_differences a b }
+{
+    let mut differences = a;
+    for k in 0..8 {
+        differences[k] = a[k] - b[k];
+    }
+    differences
 }

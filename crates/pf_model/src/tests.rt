@@ -56,7 +56,7 @@ fn list_from(rt: HostRuntime, x: u32) -> Result<Vec<Entry>, Fail>
 }
 
 fn moment(count: u32, mass: u64, x: u128) -> Moment
-    requires few { count ≤ 65536 }
+    requires few { count ≤ MOST_PARTICLES }
     requires heavy { count ≤ mass }
     requires light { mass ≤ count * (2 ^ 31 - 1) }
     requires inside { x ≤ mass * (2 ^ 30 - 1) }

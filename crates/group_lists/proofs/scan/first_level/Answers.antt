@@ -1,6 +1,6 @@
 use Rattle.std.proofs.Common.{◌≡◌, ◌<◌, ◌≤◌, sym, ◌∙◌, ap, subst, inl, inr, arith}
 use Rattle.std.proofs.lemmas.Bool.{cases_lt, false≢true}
-use Rattle.pf_geom.specs.Octant.{cell_at}
+use Rattle.pf_geom.specs.Octant.{Octant, cell_at}
 use Rattle.pf_model.specs.Criterion.{Passes}
 use Rattle.group_lists.proofs.scan.first_level.Goals as goal
 
@@ -13,7 +13,7 @@ returns-then-passes-clause-value g c =
     let within : level < 31 = c.loop-level-test.true in
     sym (((c.levels_are_least.ensures c.args.t c.args.b c.args.p).1 level).1 (record {
       within = omega arith;
-      passes = subst (Passes c.args.t c.args.b) c.cell_of.ensures (c.passes.ensures.answer.0 c.if-passes.true);
+      passes = subst (λ (o : Octant). Passes c.args.b o c.args.t) c.cell_of.ensures (c.passes.ensures.answer.0 c.if-passes.true);
       lowest = c.loop-level.invariant;
     }))
 
@@ -24,7 +24,7 @@ loop-level-preserved g c = λ lower below passes.
       | inl less ↦ c.loop-level.invariant lower less passes
       | inr more ↦
           let same : lower ≡ level = omega arith in
-          let here = subst (Passes c.args.t c.args.b) (ap (cell_at c.args.p) same ∙ sym c.cell_of.ensures) passes in
+          let here = subst (λ (o : Octant). Passes c.args.b o c.args.t) (ap (cell_at c.args.p) same ∙ sym c.cell_of.ensures) passes in
           false≢true (sym c.if-passes.false ∙ c.passes.ensures.answer.1 here)
     ]
 

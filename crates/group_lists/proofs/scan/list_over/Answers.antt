@@ -10,7 +10,7 @@ list_is g c =
     let js = c.args.tree.now.built in
     let same : c.bodies-bodies.result.now ≡ js = c.bodies-bodies.ensures.value ∙ c.requires in
     let all = take_all c.loop-body.body-index c.bodies-bodies.result.now c.loop-body-test.false in
-    c.put_in_order.ensures c.args.t c.args.b js c.bodies-bodies.ensures.tree.distinct (c.loop-body.invariant ∙ ap (map (entry_of c.args.t c.args.b js)) (all ∙ same))
+    c.put_in_order.ensures c.args.t c.args.b js c.bodies-bodies.ensures.tree.are_bodies.distinct (c.loop-body.invariant ∙ ap (map (entry_of c.args.t c.args.b js)) (all ∙ same))
 
 pub returns-clause-value : goal.returns-clause-value
 returns-clause-value g c = list_is g c
@@ -19,5 +19,5 @@ pub returns-clause-few : goal.returns-clause-few
 returns-clause-few g c =
     let long = ap length (list_is g c) in
     let most = length-list_of c.args.t c.args.b c.args.tree.now.built in
-    let few = c.bodies-bodies.ensures.tree.few in
+    let few = c.bodies-bodies.ensures.tree.are_bodies.few in
     omega arith

@@ -22,8 +22,7 @@ ghosts-lists_of-L-Ledger g a = record { name = a.blank.name; parts = a.blank.par
 abbrev pub ghosts-lists_of-T-Terms : goal.ghosts-lists_of-T-Terms
 ghosts-lists_of-T-Terms g a = record {
   particles = three;
-  few = lit≤ tt;
-  distinct = three_differ;
+  are_bodies = record { few = lit≤ tt; distinct = three_differ };
   grid = record { nx = 1; ny = 1; nz = 1 };
   is_division = record { some_x = lit≤ tt; some_y = lit≤ tt; some_z = lit≤ tt; few = lit≤ tt };
   theta = record { a = 1; b = 1; edge = Open };

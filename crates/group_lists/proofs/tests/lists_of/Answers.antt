@@ -8,7 +8,6 @@ use Rattle.pf_model.specs.Division.{Division, IsDivision, rank_count}
 use Rattle.pf_model.specs.Domains.{particles_of}
 use Rattle.pf_model.specs.Group.{group_cell, group_cells, has_lower_corner}
 use Rattle.morton_tree.specs.Groups.{group_in, groups_of}
-use Rattle.group_lists.proofs.RankLemmas.{one_rank, all_ranks}
 use Rattle.group_lists.proofs.GatherLemmas.{length-in_order}
 use Rattle.group_lists.proofs.tests.lists_of.Goals as goal
 
@@ -20,12 +19,6 @@ few_groups limit js =
     let each = length-map js (λ (i : Particle). group_cell limit js i.at) in
     omega arith
 
--- one rank has all particles
-lone_rank : (g : Division) (js : List Particle) → IsDivision g → rank_count g ≡ 1 → particles_of g js 0 ≡ js
-lone_rank g js division one =
-    let whole : (rank : ℕ) → rank < rank_count g → Contains (0 ∷ []) rank = λ rank below. (0, omega arith, omega arith) in
-    sym (one_rank g js 0) ∙ all_ranks g js (0 ∷ []) division whole
-
 pub open-requires-clause-few : goal.open-requires-clause-few
 open-requires-clause-few g c =
     let js = c.in_ok-tree.tree.built in
@@ -33,7 +26,7 @@ open-requires-clause-few g c =
     let most = few_groups 1 js in
     let long = length_permutation c.in_ok-from_array.field-0.items js c.in_ok-tree.ensures.same_bodies in
     let bodies = ap length (c.in_ok-from_array.ensures.items ∙ sym c.requires.particles) in
-    let few = g.T.Terms.few in
+    let few = g.T.Terms.are_bodies.few in
     omega arith
 
 pub open-requires-clause-own : goal.open-requires-clause-own
@@ -41,5 +34,5 @@ open-requires-clause-own g c =
     let js = c.in_ok-tree.tree.built in
     let items = c.in_ok-from_array.field-0.items in
     subst (IsPermutation js)
-    (c.in_ok-from_array.ensures.items ∙ sym c.requires.particles ∙ sym (lone_rank g.T.Terms.grid g.T.Terms.particles g.T.Terms.is_division c.requires.one))
+    (c.in_ok-from_array.ensures.items ∙ sym c.requires.particles ∙ sym (c.lone_ranks_have_all.ensures g.T.Terms.grid g.T.Terms.particles g.T.Terms.is_division c.requires.one).1)
     (IsPermutation-sym items js c.in_ok-tree.ensures.same_bodies)

@@ -7,5 +7,5 @@ use Rattle.morton_tree.proofs.tree.sort_by_key.Goals as goal
 
 pub returns-clause-tree : goal.returns-clause-tree
 returns-clause-tree g c =
-    octree_from_sort _ _ c.requires.few c.requires.distinct c.par_sort_unstable_by_key.ensures.permutation
+    octree_from_sort _ _ c.requires c.par_sort_unstable_by_key.ensures.permutation
     (c.par_sort_unstable_by_key.ensures.sorted (λ (j : Particle). (morton_key j.at, j.id)) (always_returns_same _ _ _ (λ a r f k. search (rules, of_calls))))

@@ -16,11 +16,11 @@ lists_are g c =
     let js = g.T.Terms.particles in
     let small : c.self.inside.count ≤ 2 ^ 24 = (let counted = c.self.invariant.counted ∙ ap (gathered_count t g.T.Terms.grid js) c.self.view_is in let few = c.requires.few in omega arith) in
     let whole = subst (IsWhole g.T.Terms.grid) (sym c.self.view_is) c.requires.whole in
-    c.self.invariant.kept small ∙ ap (λ (f : Group → List Entry). map f (map (λ l. l.group) c.self.inside.listed.items)) (whole_partial t g.T.Terms.grid js (own_gathering c.self.inside.rank c.self.inside.bodies.items (map (λ l. l.group) c.self.inside.listed.items)) g.T.Terms.is_division whole)
+    c.self.invariant.kept small ∙ ap (λ (f : Group → List Entry). map f (map (λ l. l.group) c.self.inside.listed.items)) (whole_partial c.all_ranks_have_all.ensures t g.T.Terms.grid js (own_gathering c.self.inside.rank c.self.inside.bodies.items (map (λ l. l.group) c.self.inside.listed.items)) g.T.Terms.is_division whole)
 
 pub of-requires-clause-each : goal.of-requires-clause-each
 of-requires-clause-each g c =
-    listed_each c.lists_hold_their_entries.ensures g.T.Terms.theta g.T.Terms.particles c.self.inside.bodies.items c.self.inside.listed.items g.T.Terms.distinct g.T.Terms.few c.self.invariant.of_own (lists_are g c)
+    listed_each c.lists_hold_their_entries.ensures g.T.Terms.theta g.T.Terms.particles c.self.inside.bodies.items c.self.inside.listed.items g.T.Terms.are_bodies.distinct g.T.Terms.are_bodies.few c.self.invariant.of_own (lists_are g c)
 
 pub returns-clause-bodies : goal.returns-clause-bodies
 returns-clause-bodies g c =

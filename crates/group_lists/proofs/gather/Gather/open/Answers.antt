@@ -18,7 +18,7 @@ invariant_of-result g c =
     let own = c.args.tree.now.built in
     let lists : List (List _) = map (λ l. l.entries.items) c.in_ok-listed.listed.items in
     let count = c.in_ok-listed.count in
-    let opened = gathered_from_listed c.lists_ignore_order.ensures c.args.t grid js own c.args.rank c.args.groups.now lists count c.bodies.ensures.tree.distinct c.requires.own c.requires.few c.requires.of_tree c.in_ok-listed.ensures.count c.in_ok-listed.ensures.lists c.in_ok-listed.ensures.bounded in
+    let opened = gathered_from_listed c.lists_ignore_order.ensures c.one_rank_has_its_own.ensures c.args.t grid js own c.args.rank c.args.groups.now lists count c.bodies.ensures.tree.are_bodies.distinct c.requires.own c.requires.few c.requires.of_tree c.in_ok-listed.ensures.count c.in_ok-listed.ensures.lists c.in_ok-listed.ensures.bounded in
     subst (λ (v : Gathering). IsGathered g.T.Terms.theta grid js v lists count) (sym (view_is g c))
     (subst (λ (t : Criterion). IsGathered t grid js (own_gathering c.args.rank own c.args.groups.now) lists count) c.requires.theta opened)
 

@@ -1,7 +1,6 @@
 use Rattle.std.proofs.Common.{◌+◌, ◌<◌, List, length, take, drop, ◌∙◌, ap, sym, arith}
 use Rattle.pf_model.specs.Totals.{Totals}
-use Rattle.pf_model.specs.Sums.{moment_of}
-use Rattle.moments.specs.Prefix.{IsRest}
+use Rattle.pf_model.specs.Sums.{moment_of, IsRest}
 use Rattle.moments.proofs.PrefixLemmas.{prefix_length, range_makes, range_limits, same_range}
 use Rattle.moments.proofs.prefix.Prefix.range.Goals as goal
 
@@ -36,4 +35,4 @@ returns c = λ ks e.
     let makes = range_makes js c.self.inside.moments.items c.args.first c.args.len _ _ is.moments inside c.index-through.ensures c.index-before.ensures in
     let rest : IsRest c.index-through.result.now c.index-before.result.now (moment_of (take c.args.len (drop c.args.first js))) = record { limits = range_limits js c.args.first c.args.len is.few is.limits; makes = makes } in
     c.without.ensures (moment_of (take c.args.len (drop c.args.first js))) rest
-    ∙ same_range js ks c.self.inside.moments.items c.args.first c.args.len is.moments (c.self.view_is ∙ e) inside
+    ∙ same_range c.moments_cancel.ensures js ks c.self.inside.moments.items c.args.first c.args.len is.moments (c.self.view_is ∙ e) inside

@@ -13,8 +13,8 @@ members_are c =
     let long : first + len - first ≡ len = omega arith in
     ap (λ (n : ℕ). take n (drop first c.bodies.result.now)) long ∙ ap (λ (js : List Particle). take len (drop first js)) same ∙ c.node-span.ensures.members
 
-pub box_round-requires : goal.box_round-requires
-box_round-requires c =
+pub box_of-requires : goal.box_of-requires
+box_of-requires c =
     let own = c.args.self.now.built in
     let cell = group_cell c.args.limit own c.args.body.now.at in
     let at = ap (λ (j : Particle). group_cell c.args.limit own j.at) c.body.view_is in

@@ -13,7 +13,7 @@ between-requires c =
     c.partition_point-first.ensures.bound (c.partition_point-first.ensures.partitioned (is_below c.args.c) (always_returns_same _ _ _ (λ a r f k. search (rules, of_calls))))
     c.partition_point-end.ensures.bound (c.partition_point-end.ensures.partitioned (is_not_above c.args.c) (always_returns_same _ _ _ (λ a r f k. search (rules, of_calls)))) in
     let same = ap length c.built-built.ensures.value in
-    let few = c.built-built.ensures.tree.few in
+    let few = c.built-built.ensures.tree.are_bodies.few in
     let bound = c.partition_point-end.ensures.bound in
     record { ordered = omega arith; few = omega arith }
 

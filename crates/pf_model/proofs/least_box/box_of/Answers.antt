@@ -3,8 +3,8 @@ use Rattle.std.proofs.lemmas.List.{get_or-take, length-take}
 use Rattle.std.proofs.lemmas.Grind.{get_or_after_one}
 use Rattle.pf_geom.specs.Bounds.{box_round}
 use Rattle.pf_model.specs.Particle.{Particle}
-use Rattle.morton_tree.proofs.BoxLemmas.{box_more}
-use Rattle.morton_tree.proofs.groups.box_round.Goals as goal
+use Rattle.pf_model.proofs.BoxLemmas.{box_more}
+use Rattle.pf_model.proofs.least_box.box_of.Goals as goal
 
 pub loop-body-preserved : goal.loop-body-preserved
 loop-body-preserved c =

@@ -1,7 +1,7 @@
 use Rattle.std.proofs.Common.{◌≡◌, ◌<◌, get_or, pos, ◌-ℤ◌, to_z, of_z, w64, ◌∙◌, sym, add-one, arith}
 use Rattle.std.proofs.lemmas.Int.{ints}
-use Rattle.moments.proofs.DifferenceLemmas.{pairwise_differences-more, pairwise_differences-whole}
-use Rattle.moments.proofs.prefix.attribute_differences.Goals as goal
+use Rattle.pf_model.proofs.DifferenceLemmas.{pairwise_differences-more, pairwise_differences-whole}
+use Rattle.pf_model.proofs.moment.attribute_differences.Goals as goal
 
 pub loop-k-preserved : goal.loop-k-preserved
 loop-k-preserved c =
