@@ -1,5 +1,5 @@
 -- The number that a field writes.
-use Rattle.std.specs.Prelude.{ℕ, Bool, false, ◌&&◌, ◌==◌, not, nat_le, if◌then◌else◌, ℤ, pos, neg_ℤ, int_lt, List, [], ◌∷◌, Result, Ok, Err}
+use Rattle.std.specs.Prelude.{ℕ, Bool, false, ◌&&◌, ◌==◌, nat_le, min, ◌-◌, ◌^◌, if◌then◌else◌, ℤ, pos, negsuc, neg_ℤ, int_le, List, [], ◌∷◌, Result, Ok, Err}
 use Rattle.std.specs.Char.{is_ascii_digit}
 use Rattle.std.specs.Str.{all_ascii_digits}
 use Rattle.std.specs.Str.Parse.{digits_value}
@@ -21,7 +21,7 @@ integer_value [] = pos 0
 integer_value (byte ∷ bytes) = if byte == 45 then neg_ℤ (pos (digits_value 10 bytes)) else pos (digits_value 10 (byte ∷ bytes))
 
 abbrev pub is_between : ℤ → ℤ → ℤ → Bool
-is_between least most n = not (int_lt n least) && not (int_lt most n)
+is_between least most n = int_le least n && int_le n most
 
 -- the number that the field writes within these limits, or why it writes none
 abbrev pub digits_in : ℕ → ℕ → List ℕ → Result ℕ NumberFault
@@ -35,3 +35,8 @@ integer_in least most field =
     if is_integer field
     then (if is_between least most (integer_value field) then Ok (integer_value field) else Err OutOfRange)
     else Err NoNumber
+
+-- the integer, or one past 64 bits on the same side where it is past them
+abbrev pub saturated : ℤ → ℤ
+saturated (pos n) = pos (min n (2 ^ 64 - 1))
+saturated (negsuc n) = negsuc (min n (2 ^ 64 - 2))

@@ -1,4 +1,4 @@
-ghost use Rattle.std.specs.Prelude.{◌≡◌, ◌∷◌, [], not, length, take_while, MatchOption};
+ghost use Rattle.std.specs.Prelude.{◌≡◌, ◌<◌, ◌∷◌, [], not, length, take_while, MatchOption};
 ghost use Rattle.text_lines.specs.Lines.{is_blank, fields};
 
 use std::marker::Model;
@@ -30,12 +30,19 @@ impl<'a> Fields<'a> {
     pub fn next_field(&mut self) -> Option<&'a [u8]>
         ensures { MatchOption result ((self.old ≡ []) × (self.new ≡ [])) (λ field. self.old ≡ field.now ∷ self.new) }
     {
-        let rest = self.rest;
-        let (_, rest) = rest.split_at(blanks_len(rest));
-        let (field, rest) = rest.split_at(field_len(rest));
+        let (field, rest) = split_field(self.rest);
         self.rest = rest;
         if field.is_empty() { None } else { Some(field) }
     }
+}
+
+// The first field and what follows it. Where there is none both are empty.
+fn split_field(line: &[u8]) -> (&[u8], &[u8])
+    ensures none { length result.0.now ≡ 0 → (fields line.now ≡ []) × (fields result.1.now ≡ []) }
+    ensures some { 0 < length result.0.now → fields line.now ≡ result.0.now ∷ fields result.1.now }
+{
+    let (_, line) = line.split_at(blanks_len(line));
+    line.split_at(field_len(line))
 }
 
 // Space and tab.

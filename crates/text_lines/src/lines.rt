@@ -1,6 +1,6 @@
-ghost use Rattle.std.specs.Prelude.{◌≡◌, ◌+◌, ◌-◌, ◌^◌, ◌<◌, ◌≤◌, ◌∷◌, [], ◌==◌, not, length, take, drop, take_while, slice_index, if◌then◌else◌, MatchOption};
+ghost use Rattle.std.specs.Prelude.{◌≡◌, ◌+◌, ◌-◌, ◌^◌, ◌<◌, ◌≤◌, ◌∷◌, [], ◌==◌, not, length, drop, take_while, find, MatchOption};
 ghost use Rattle.std.specs.Str.Lines.{strip_carriage_return};
-ghost use Rattle.text_lines.specs.Lines.{is_skipped, lines, field_lines};
+ghost use Rattle.text_lines.specs.Lines.{is_blank, is_skipped, lines, field_lines};
 
 use crate::fields::{Fields, is_blank};
 use crate::line::Line;
@@ -80,11 +80,16 @@ fn split_line(text: &[u8]) -> (&[u8], &[u8])
     ensures shorter { length result.1.now < length text.now }
 {
     let (line, rest) = text.split_at(line_len(text));
-    let rest = match rest {
+    (without_return(line), without_first(rest))
+}
+
+fn without_first(text: &[u8]) -> &[u8]
+    ensures { result.now ≡ drop 1 text.now }
+{
+    match text {
         [_, rest @ ..] => rest,
-        [] => rest,
-    };
-    (without_return(line), rest)
+        [] => text,
+    }
 }
 
 // How many bytes stand before the first line feed, or before the end.
@@ -108,8 +113,15 @@ fn without_return(line: &[u8]) -> &[u8]
 fn is_skipped(line: &[u8]) -> bool
     ensures { result ≡ is_skipped line.now }
 {
-    match line.iter().find(|byte| !is_blank(**byte)) {
-        Some(byte) => *byte == b'#',
+    match first_other(line) {
+        Some(byte) => byte == b'#',
         None => true,
     }
+}
+
+// The first byte that is no blank.
+fn first_other(line: &[u8]) -> Option<u8>
+    ensures { result ≡ find (λ b. not (is_blank b)) line.now }
+{
+    line.iter().copied().find(|byte| !is_blank(*byte))
 }

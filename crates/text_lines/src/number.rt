@@ -1,6 +1,6 @@
 ghost use Rattle.std.specs.Prelude.{◌≡◌, ◌-◌, ◌^◌, min, Some, None, if◌then◌else◌};
 ghost use Rattle.std.specs.Str.Parse.{digits_value};
-ghost use Rattle.text_lines.specs.Numbers.{is_digits, digits_in, integer_in};
+ghost use Rattle.text_lines.specs.Numbers.{is_digits, is_integer, integer_value, saturated, digits_in, integer_in};
 
 /// Why a field doesn't give a number.
 #[derive(Clone, Copy, Debug, PartialEq, Eq)]
@@ -28,10 +28,7 @@ pub fn digits_in(field: &[u8], least: u32, most: u32) -> Result<u32, NumberFault
 pub fn integer_in(field: &[u8], least: i64, most: i64) -> Result<i64, NumberFault>
     ensures { result ≡ integer_in least most field.now }
 {
-    let number = match field {
-        [b'-', digits @ ..] => -i128::from(magnitude(digits).ok_or(NumberFault::NoNumber)?),
-        digits => i128::from(magnitude(digits).ok_or(NumberFault::NoNumber)?),
-    };
+    let number = integer(field).ok_or(NumberFault::NoNumber)?;
     if i128::from(least) <= number && number <= i128::from(most) {
         Ok(number as i64)
     } else {
@@ -39,7 +36,17 @@ pub fn integer_in(field: &[u8], least: i64, most: i64) -> Result<i64, NumberFaul
     }
 }
 
-// The number that the digits write, or 2^64 - 1 where it is more, if they are a run of digits.
+// The integer that the field writes, as far as 64 bits hold it.
+fn integer(field: &[u8]) -> Option<i128>
+    ensures { result ≡ (if is_integer field.now then Some (saturated (integer_value field.now)) else None) }
+{
+    match field {
+        [b'-', digits @ ..] => Some(-i128::from(magnitude(digits)?)),
+        digits => Some(i128::from(magnitude(digits)?)),
+    }
+}
+
+// The number that the digits write, or 2^64 - 1 where it is more.
 fn magnitude(digits: &[u8]) -> Option<u64>
     ensures { result ≡ (if is_digits digits.now then Some (min (digits_value 10 digits.now) (2 ^ 64 - 1)) else None) }
 {
