@@ -1,0 +1,4 @@
+pub mod Form
+pub mod Number
+pub mod Options
+pub mod Words
