@@ -18,11 +18,11 @@ use Rattle.kern_parse.specs.declared.declaration.Side.{Side}
 use Rattle.kern_parse.specs.declared.declaration.Side.TheVariants as sides
 use Rattle.kern_parse.specs.declared.declaration.Start.{Start}
 use Rattle.kern_parse.specs.declared.declaration.Start.TheVariants as starts
-use Rattle.kern_parse.specs.Decls.{ReadsDecl, Declares, start_of, word_of, kind_of, combine_of}
-use Rattle.kern_parse.specs.Found.{Reads, ReadsToken}
-use Rattle.kern_parse.specs.Leading.{Leads, Halts}
-use Rattle.kern_parse.specs.Reading.{Reading, next_kind, Takes, TakesNode, IsFull}
-use Rattle.kern_parse.specs.Required.{Part, Refuses, move, plain, node}
+use Rattle.kern_parse.specs.inner.Decls.{ReadsDecl, Declares, start_of, word_of, kind_of, combine_of}
+use Rattle.kern_parse.specs.inner.Found.{ReadsRule, ReadsToken}
+use Rattle.kern_parse.specs.inner.Leading.{Leads, Halts}
+use Rattle.kern_parse.specs.inner.Reading.{Reading, next_kind, Takes, TakesNode, IsFull}
+use Rattle.kern_parse.specs.Required.{Part, Refuses, move, plain_move, node_move}
 use Rattle.kern_parse.proofs.Expanding.{stands_for, and_then_nothing}
 use Rattle.kern_parse.proofs.Expressions.{many_snoc}
 use Rattle.kern_parse.proofs.Following.{leads_then, leads_first, shorter_by_token, strictly_shorter, node_token}
@@ -38,7 +38,7 @@ some_is h = cc
 pub record TellsWord {A : Type 0} (part : Part) (rule : Rule A) (next : Option TokenKind) (value : A) : Type 0 where
   pub word : Word
   pub next_is : next ≡ Some (kinds.Word word)
-  pub moves : move part (kinds.Word word) ≡ plain []
+  pub moves : move part (kinds.Word word) ≡ plain_move []
   pub spelled : (tokens : List Token) (place : ℕ) (rest : List Token) → token (kinds.Word word) tokens place rest → rule tokens value rest
 
 kind_tells : (next : Option TokenKind) (k : Kind) → kind_of next ≡ Some k → TellsWord Part.KindWord kind next k
@@ -70,7 +70,7 @@ no_combine (Some (kinds.Word words.Max)) none = cc
 no_combine (Some (kinds.Word words.Min)) none = cc
 no_combine (Some _) none = refl
 
-reads_word : {A : Type 0} (part : Part) (rule : Rule A) (value : A) (old : Reading) (place : ℕ) (new : Reading) → TellsWord part rule (next_kind old) value → Takes old place new → Reads rule (part ∷ []) old value new
+reads_word : {A : Type 0} (part : Part) (rule : Rule A) (value : A) (old : Reading) (place : ℕ) (new : Reading) → TellsWord part rule (next_kind old) value → Takes old place new → ReadsRule rule (part ∷ []) old value new
 reads_word part rule value old place new told t =
     let found = reads_token part (kinds.Word told.word) old place new t told.next_is told.moves (λ depth. refl) in
     record {
@@ -80,10 +80,10 @@ reads_word part rule value old place new told t =
       shorter = shorter_by_token _ old.rest found.place new.rest found.spelled;
     }
 
-pub kind_read : (k : Kind) (old : Reading) (place : ℕ) (new : Reading) → kind_of (next_kind old) ≡ Some k → Takes old place new → Reads kind (Part.KindWord ∷ []) old k new
+pub kind_read : (k : Kind) (old : Reading) (place : ℕ) (new : Reading) → kind_of (next_kind old) ≡ Some k → Takes old place new → ReadsRule kind (Part.KindWord ∷ []) old k new
 kind_read k old place new is t = reads_word Part.KindWord kind k old place new (kind_tells (next_kind old) k is) t
 
-pub combine_read : (way : Combine) (old : Reading) (place : ℕ) (new : Reading) → combine_of (next_kind old) ≡ Some way → Takes old place new → Reads combine (Part.CombineWord ∷ []) old way new
+pub combine_read : (way : Combine) (old : Reading) (place : ℕ) (new : Reading) → combine_of (next_kind old) ≡ Some way → Takes old place new → ReadsRule combine (Part.CombineWord ∷ []) old way new
 combine_read way old place new is t = reads_word Part.CombineWord combine way old place new (combine_tells (next_kind old) way is) t
 
 -- ---- signed numbers
@@ -98,7 +98,7 @@ signed_is_number old other = stands_for Part.Signed Part.Number [] old refl refl
     (λ kind next. no_minus kind (λ e. other (next ∙ ap Some e)) ∙ sym (and_then_nothing (move Part.Number kind)))
 
 pub plain_signed : (n : ℕ) (value : ℤ) (old new : Reading) → (next_kind old ≡ Some (kinds.Symbol symbols.Minus) → ⊥) → value ≡ pos n → ReadsToken Part.Number (kinds.Number n) old new
-    → Reads signed (Part.Signed ∷ []) old value new
+    → ReadsRule signed (Part.Signed ∷ []) old value new
 plain_signed n value old new other is read = record {
   spelled = inl (record { place = read.place; held = n }, new.rest, read.spelled, (is, refl));
   leads = leads_then (signed_is_number old other) read.leads;
@@ -110,7 +110,7 @@ pub minus_leads : (old : Reading) (place : ℕ) (mid : Reading) → next_kind ol
 minus_leads old place mid next t = takes_plain Part.Signed (Part.Number ∷ []) (kinds.Symbol symbols.Minus) old place mid t next refl refl
 
 pub minus_signed : (n : ℕ) (value : ℤ) (place : ℕ) (old mid new : Reading) → next_kind old ≡ Some (kinds.Symbol symbols.Minus) → Takes old place mid → value ≡ neg_ℤ (pos n)
-    → ReadsToken Part.Number (kinds.Number n) mid new → Reads signed (Part.Signed ∷ []) old value new
+    → ReadsToken Part.Number (kinds.Number n) mid new → ReadsRule signed (Part.Signed ∷ []) old value new
 minus_signed n value place old mid new next t is read =
     let first = kind_is old.rest mid.rest t.token (kinds.Symbol symbols.Minus) t.rest next in
     record {
@@ -132,7 +132,7 @@ thens (starts.Field side) = Part.KindWord ∷ Part.Scale ∷ Part.Name ∷ Part.
 thens starts.Force = Part.KindWord ∷ Part.Scale ∷ Part.Name ∷ Part.CombineWord ∷ Part.Exactly symbols.Semicolon ∷ Part.Decls ∷ []
 thens starts.Constant = Part.Scale ∷ Part.Name ∷ Part.Exactly symbols.Assign ∷ Part.Signed ∷ Part.Exactly symbols.Semicolon ∷ Part.Decls ∷ []
 
-decl_moves : (start : Start) → move Part.Decls (kinds.Word (word_of start)) ≡ node (thens start)
+decl_moves : (start : Start) → move Part.Decls (kinds.Word (word_of start)) ≡ node_move (thens start)
 decl_moves (starts.Field sides.Epi) = refl
 decl_moves (starts.Field sides.Epj) = refl
 decl_moves starts.Force = refl
@@ -177,7 +177,7 @@ field_spelled sides.Epj k bits called field place t0 t1 t2 t3 t4 t5 t6 t7 read f
     inl (inl (inr (place, t1, first, (k, t2, of_kind, (record { place = scaled.0; held = bits }, t3, scaled.1, (record { place = named.0; held = called }, t4, named.1, (colon.0, t5, colon.1, (record { place = told.0; held = field }, t6, told.1, (semicolon.0, t7, semicolon.1, (is, refl))))))))))
 
 pub field_read : (side : Side) (k : Kind) (bits : ℕ) (called field : List ℕ) (place : ℕ) (old r0 r1 r2 r3 r4 r5 new : Reading) → next_kind old ≡ Some (kinds.Word (word_of (starts.Field side))) → TakesNode old place r0
-    → Reads kind (Part.KindWord ∷ []) r0 k r1 → ReadsToken Part.Scale (kinds.Scale bits) r1 r2 → ReadsToken Part.Name (kinds.Name called) r2 r3
+    → ReadsRule kind (Part.KindWord ∷ []) r0 k r1 → ReadsToken Part.Scale (kinds.Scale bits) r1 r2 → ReadsToken Part.Name (kinds.Name called) r2 r3
     → ReadsToken (Part.Exactly symbols.Colon) (kinds.Symbol symbols.Colon) r3 r4 → ReadsToken Part.Name (kinds.Name field) r4 r5
     → ReadsToken (Part.Exactly symbols.Semicolon) (kinds.Symbol symbols.Semicolon) r5 new → (read : Decl) → read ≡ field_decl side place called k bits field → ReadsDecl old read new
 field_read side k bits called field place old r0 r1 r2 r3 r4 r5 new next t of_kind scaled named colon told semicolon read is =
@@ -199,8 +199,8 @@ field_read side k bits called field place old r0 r1 r2 r3 r4 r5 new next t of_ki
     }
 
 pub force_read : (k : Kind) (bits : ℕ) (called : List ℕ) (way : Combine) (place : ℕ) (old r0 r1 r2 r3 r4 new : Reading) → next_kind old ≡ Some (kinds.Word words.Force) → TakesNode old place r0
-    → Reads kind (Part.KindWord ∷ []) r0 k r1 → ReadsToken Part.Scale (kinds.Scale bits) r1 r2 → ReadsToken Part.Name (kinds.Name called) r2 r3
-    → Reads combine (Part.CombineWord ∷ []) r3 way r4 → ReadsToken (Part.Exactly symbols.Semicolon) (kinds.Symbol symbols.Semicolon) r4 new
+    → ReadsRule kind (Part.KindWord ∷ []) r0 k r1 → ReadsToken Part.Scale (kinds.Scale bits) r1 r2 → ReadsToken Part.Name (kinds.Name called) r2 r3
+    → ReadsRule combine (Part.CombineWord ∷ []) r3 way r4 → ReadsToken (Part.Exactly symbols.Semicolon) (kinds.Symbol symbols.Semicolon) r4 new
     → ReadsDecl old (decl_node place called (declared_as.Force k bits way)) new
 force_read k bits called way place old r0 r1 r2 r3 r4 new next t of_kind scaled named combined semicolon =
     let first = node_token (kinds.Word words.Force) old place r0 t next in
@@ -241,7 +241,7 @@ force_read k bits called way place old r0 r1 r2 r3 r4 new next t of_kind scaled 
 
 pub constant_read : (bits : ℕ) (called : List ℕ) (value : ℤ) (place : ℕ) (old r0 r1 r2 r3 r4 new : Reading) → next_kind old ≡ Some (kinds.Word words.Param) → TakesNode old place r0
     → ReadsToken Part.Scale (kinds.Scale bits) r0 r1 → ReadsToken Part.Name (kinds.Name called) r1 r2
-    → ReadsToken (Part.Exactly symbols.Assign) (kinds.Symbol symbols.Assign) r2 r3 → Reads signed (Part.Signed ∷ []) r3 value r4
+    → ReadsToken (Part.Exactly symbols.Assign) (kinds.Symbol symbols.Assign) r2 r3 → ReadsRule signed (Part.Signed ∷ []) r3 value r4
     → ReadsToken (Part.Exactly symbols.Semicolon) (kinds.Symbol symbols.Semicolon) r4 new → ReadsDecl old (decl_node place called (declared_as.Param bits value)) new
 constant_read bits called value place old r0 r1 r2 r3 r4 new next t scaled named equals valued semicolon =
     let first = node_token (kinds.Word words.Param) old place r0 t next in
@@ -288,7 +288,7 @@ decls_more old now new decls read found one = record {
   shorter = omega (arith, found.shorter, one.shorter);
 }
 
-pub decls_all : (old now : Reading) (decls : List Decl) → Declares old decls now → start_of (next_kind now) ≡ None → Reads (many decl) (Part.Decls ∷ []) old decls now
+pub decls_all : (old now : Reading) (decls : List Decl) → Declares old decls now → start_of (next_kind now) ≡ None → ReadsRule (many decl) (Part.Decls ∷ []) old decls now
 decls_all old now decls found none = record {
   spelled = found.spelled;
   leads = leads_then found.leads (passes Part.Decls now refl (no_start (next_kind now) none));

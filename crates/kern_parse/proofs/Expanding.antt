@@ -1,13 +1,13 @@
 -- A part that stands for others.
-use Rattle.std.proofs.Common.{◌≡◌, ℕ, List, [], ◌∷◌, ◌++◌, false, ◌&&◌, cond, nat_lt, Option, Some, None, refl, sym, ap, ap₂, ◌∙◌, append_assoc}
+use Rattle.std.proofs.Common.{◌≡◌, ℕ, List, [], ◌∷◌, ◌++◌, false, ◌&&◌, cond, nat_le, nat_lt, Option, Some, None, refl, sym, ap, ap₂, ◌∙◌, append_assoc}
 use Rattle.kern_token.specs.declared.fault.KernFault.TheVariants as faults
 use Rattle.kern_token.specs.declared.token.Token.{Token}
 use Rattle.kern_token.specs.declared.token.TokenKind.{TokenKind}
 use Rattle.kern_tree.specs.FirstFault.{brackets_after}
 use Rattle.kern_parse.specs.declared.operators.Level.{Level}
 use Rattle.kern_parse.specs.declared.operators.Level.TheVariants as levels
-use Rattle.kern_parse.specs.Leading.{moves, chosen, are_optional, nodes_after, step, reads_on, Leads}
-use Rattle.kern_parse.specs.Reading.{Reading, first_kind, next_kind}
+use Rattle.kern_parse.specs.inner.Leading.{moves, chosen, are_optional, nodes_after, step, reads_on, Leads}
+use Rattle.kern_parse.specs.inner.Reading.{Reading, first_kind, next_kind}
 use Rattle.kern_parse.specs.Required.{Part, Move, move, and_then, is_optional, operand}
 
 -- the same fault, where the next token leads to the same
@@ -17,7 +17,7 @@ same_fault : (ps qs : List Part) (end nodes depth : ℕ) (rest : List Token) →
 unfolding reads_on
 same_fault ps qs end nodes depth [] optional same = ap (λ b. cond b None (Some (faults.Unexpected end))) optional
 same_fault ps qs end nodes depth (token ∷ rest) optional same =
-    ap (λ found. step token.place (nat_lt 32 (brackets_after depth token.kind)) (nat_lt 511 nodes) found (λ m. reads_on end m.then (nodes_after m.is_node nodes) (brackets_after depth token.kind) rest))
+    ap (λ found. step token.place (nat_lt 32 (brackets_after depth token.kind)) (nat_le 512 nodes) found (λ m. reads_on end m.then (nodes_after m.is_node nodes) (brackets_after depth token.kind) rest))
     (same token.kind refl)
 
 pub leads_alike : (ps qs : List Part) (reading : Reading) → ((later : List Part) → are_optional (ps ++ later) ≡ are_optional (qs ++ later))

@@ -26,10 +26,10 @@ use Rattle.kern_parse.specs.declared.operators.Call.{Call}
 use Rattle.kern_parse.specs.declared.operators.Call.TheVariants as calls
 use Rattle.kern_parse.specs.declared.operators.Level.{Level}
 use Rattle.kern_parse.specs.declared.operators.Level.TheVariants as levels
-use Rattle.kern_parse.specs.Found.{inside, rule_of, next_of, Reads, ReadsToken, ReadsExpr, ReadsCall, ReadsBracketed, Joins, Picks, IsCalled, arguments, after_word}
-use Rattle.kern_parse.specs.Leading.{Leads, Halts, Fails}
-use Rattle.kern_parse.specs.Operators.{binary_of, relation_of, prefix_of, call_of}
-use Rattle.kern_parse.specs.Reading.{Reading, next_kind, TakesNode, IsFull}
+use Rattle.kern_parse.specs.inner.Found.{inside, rule_of, next_of, ReadsRule, ReadsToken, ReadsExpr, ReadsCall, ReadsBracketed, Joins, Picks, IsCalled, arguments, after_word}
+use Rattle.kern_parse.specs.inner.Leading.{Leads, Halts, Fails}
+use Rattle.kern_parse.specs.inner.Operators.{binary_of, relation_of, prefix_of, call_of}
+use Rattle.kern_parse.specs.inner.Reading.{Reading, next_kind, TakesNode, IsFull}
 use Rattle.kern_parse.specs.Required.{Part, Refuses, move, operand, and_then, prim_move, exactly_move, same_symbol}
 use Rattle.kern_parse.proofs.Expanding.{stands_for, and_then_nothing, chain_expands, rel_expands, post_expands}
 use Rattle.kern_parse.proofs.Following.{leads_then, leads_first, fault_then, shorter_by_token, shorter_by_one, node_token}
@@ -392,7 +392,7 @@ pub picks_leads : (old now mid : Reading) (e : Expr) (place : ℕ) → Picks old
 picks_leads old now mid e place picks is t = leads_then picks.leads (takes_node Part.MorePost (Part.AxisName ∷ Part.MorePost ∷ []) (kinds.Symbol symbols.Dot) now place mid t is refl refl)
 
 pub picks_more : (old now mid new : Reading) (e : Expr) (along : Axis) (place : ℕ) → Picks old e now → next_kind now ≡ Some (kinds.Symbol symbols.Dot) → TakesNode now place mid
-    → Reads axis (Part.AxisName ∷ []) mid along new → Picks old (node place (forms.Part e along)) new
+    → ReadsRule axis (Part.AxisName ∷ []) mid along new → Picks old (node place (forms.Part e along)) new
 picks_more old now mid new e along place picks is t read =
     let at = node_token (kinds.Symbol symbols.Dot) now place mid t is in
     record {

@@ -10,11 +10,11 @@ use Rattle.kern_token.specs.declared.token.TokenKind.TheVariants as kinds
 use Rattle.kern_token.proofs.TokenPlaces.{Spells-stand, Spells-in_order}
 use Rattle.kern_token.specs.Reading.{AreInOrder, Spells, StandsIn}
 use Rattle.kern_tree.specs.declared.kernel.Kernel.{Kernel}
-use Rattle.kern_tree.specs.FirstFault.{CanGoOn, brackets_after, open_brackets, end_of, StopsAt, RunOut, IsTooDeep, IsNode513, HasFault, place_of, rank, IsNoLater, HasFirstFault, IsKernelOf}
+use Rattle.kern_tree.specs.FirstFault.{CanGoOn, brackets_after, open_brackets, end_of, StopsAt, RunOut, IsTooDeep, IsTooManyNodes, HasFault, place_of, rank, IsNoLater, HasFirstFault, IsKernelOf}
 use Rattle.kern_tree.specs.Grammar.{SpellsKernel}
 use Rattle.kern_tree.specs.Nodes.{kernel_nodes}
-use Rattle.kern_parse.specs.Leading.{moves, are_optional, reads_on, fault_of}
-use Rattle.kern_parse.specs.Reading.{Reading}
+use Rattle.kern_parse.specs.inner.Leading.{moves, are_optional, reads_on, fault_of}
+use Rattle.kern_parse.specs.inner.Reading.{Reading}
 use Rattle.kern_parse.specs.Required.{Part, Move}
 use Rattle.kern_parse.proofs.FirstTokens.{mark}
 use Rattle.kern_parse.proofs.GoingOn.{start_parts, Split, runs_append, runs_split, one_run, kernel_runs, can_go_on, runs_of, whole_runs, get_at, no_node_here}
@@ -109,7 +109,7 @@ module _ (tokens : List Token) where
     first_at_end (faults.Unexpected place) (inl h) = let s : StopsAt tokens h.0 = h.2 in absurd (s.no_further (done_goes_on tokens those marks p s.before h.0 s.after s.stands))
     first_at_end (faults.Unexpected place) (inr h) = inr (sym h.0, omega arith)
     first_at_end (faults.TooDeep place) h = let s : IsTooDeep tokens h.0 = h.2 in absurd (done_not_deep tokens those marks p s.before h.0 s.after s.stands s.deep)
-    first_at_end (faults.TooManyNodes place) h = let s : IsNode513 tokens h.0 = h.2 in absurd (done_few tokens those marks p s.before h.0 s.after s.stands (h.0).place s.node)
+    first_at_end (faults.TooManyNodes place) h = let s : IsTooManyNodes tokens h.0 = h.2 in absurd (done_few tokens those marks p s.before h.0 s.after s.stands (h.0).place s.node)
     first_at_end (faults.BadByte place) h = absurd h
     first_at_end (faults.NumberTooLarge place) h = absurd h
     first_at_end faults.Memory h = absurd h
@@ -153,7 +153,7 @@ module _ (tokens : List Token) where
     goes_on_with : (found : Move) → moves those token.kind ≡ Some found → CanGoOn (before ++ token ∷ [])
     goes_on_with found moved = can_go_on (before ++ token ∷ []) found.then (marks ++ (mark found.is_node token.place ++ [])) (runs_with found moved)
 
-    node_at : (found : Move) → moves those token.kind ≡ Some found → found.is_node ≡ true → 511 < length marks → IsNode513 tokens token
+    node_at : (found : Move) → moves those token.kind ≡ Some found → found.is_node ≡ true → 511 < length marks → IsTooManyNodes tokens token
     node_at found moved is_node many = record {
       before = before;
       after = after;
@@ -201,7 +201,7 @@ module _ (tokens : List Token) where
                 absurd (omega arith)
             go (later middle e) k = let l : token.place < token'.place = place_later s.before token' s.after s.stands middle e in inl (omega arith)
 
-        first_of_nodes : (other : KernFault) (token' : Token) → place_of other ≡ token'.place → rank other ≡ 4 → rank found ≤ 4 → IsNode513 tokens token' → IsNoLater found other
+        first_of_nodes : (other : KernFault) (token' : Token) → place_of other ≡ token'.place → rank other ≡ 4 → rank found ≤ 4 → IsTooManyNodes tokens token' → IsNoLater found other
         first_of_nodes other token' other_is ranked known s = go (seen_here s.before token' s.after s.stands)
           where
             go : Seen before token after s.before token' s.after → IsNoLater found other

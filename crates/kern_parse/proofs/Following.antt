@@ -4,8 +4,8 @@ use Rattle.kern_token.specs.declared.fault.KernFault.{KernFault}
 use Rattle.kern_token.specs.declared.token.Token.{Token}
 use Rattle.kern_token.specs.declared.token.TokenKind.{TokenKind}
 use Rattle.kern_tree.specs.Rules.{token}
-use Rattle.kern_parse.specs.Leading.{Leads, Halts}
-use Rattle.kern_parse.specs.Reading.{Reading, next_kind, TakesNode}
+use Rattle.kern_parse.specs.inner.Leading.{Leads, Halts}
+use Rattle.kern_parse.specs.inner.Reading.{Reading, next_kind, TakesNode}
 use Rattle.kern_parse.specs.Required.{Part}
 use Rattle.kern_parse.proofs.Taking.{kind_is}
 

@@ -9,7 +9,7 @@ use Rattle.kern_tree.specs.FirstFault.{CanGoOn}
 use Rattle.kern_tree.specs.Grammar.{stmt, SpellsKernel}
 use Rattle.kern_tree.specs.Nodes.{stmt_nodes, kernel_nodes}
 use Rattle.kern_tree.specs.Rules.{many}
-use Rattle.kern_parse.specs.Leading.{moves, are_optional}
+use Rattle.kern_parse.specs.inner.Leading.{moves, are_optional}
 use Rattle.kern_parse.specs.Required.{Part, Move, move}
 use Rattle.kern_parse.proofs.Fillings.{AllAt, fillings, fillings_at, all_filled}
 use Rattle.kern_parse.proofs.FirstTokens.{mark}

@@ -9,9 +9,9 @@ use Rattle.kern_tree.specs.declared.expr.Form.TheVariants as forms
 use Rattle.kern_tree.specs.Grammar.{axis, axis_name, node}
 use Rattle.pf_geom.specs.declared.axis.Axis.{Axis}
 use Rattle.pf_geom.specs.declared.axis.Axis.TheVariants as axes
-use Rattle.kern_parse.specs.Found.{Reads, ReadsExpr, scale_if_any}
-use Rattle.kern_parse.specs.Leading.{Halts}
-use Rattle.kern_parse.specs.Reading.{Reading, next_kind, Takes, TakesNode, IsFull}
+use Rattle.kern_parse.specs.inner.Found.{ReadsRule, ReadsExpr, scale_if_any}
+use Rattle.kern_parse.specs.inner.Leading.{Halts}
+use Rattle.kern_parse.specs.inner.Reading.{Reading, next_kind, Takes, TakesNode, IsFull}
 use Rattle.kern_parse.specs.Required.{Part, Refuses, axis_at, axis_move}
 use Rattle.kern_parse.proofs.Following.{leads_then, shorter_by_token, node_token}
 use Rattle.kern_parse.proofs.Steps.{passes}
@@ -27,7 +27,7 @@ no_scale (Some (kinds.Word word)) h = refl
 no_scale (Some (kinds.Number n)) h = refl
 no_scale (Some (kinds.Symbol s)) h = refl
 
-pub scale_passed : (old : Reading) → Refuses Part.Scale (next_kind old) → Reads scale_if_any (Part.ScaleIfAny ∷ []) old 0 old
+pub scale_passed : (old : Reading) → Refuses Part.Scale (next_kind old) → ReadsRule scale_if_any (Part.ScaleIfAny ∷ []) old 0 old
 scale_passed old none = record {
   spelled = inr (refl, refl);
   leads = passes Part.ScaleIfAny old refl (no_scale (next_kind old) none);
@@ -36,7 +36,7 @@ scale_passed old none = record {
 }
 
 pub scale_taken : (old : Reading) (place bits : ℕ) (new : Reading) → Takes old place new → next_kind old ≡ Some (kinds.Scale bits)
-    → Reads scale_if_any (Part.ScaleIfAny ∷ []) old bits new
+    → ReadsRule scale_if_any (Part.ScaleIfAny ∷ []) old bits new
 scale_taken old place bits new t next =
     let found = reads_token Part.Scale (kinds.Scale bits) old place new t next refl (λ depth. refl) in
     record {
@@ -49,7 +49,7 @@ scale_taken old place bits new t next =
 -- ---- literals and names
 
 pub literal_read : (n bits place : ℕ) (old mid new : Reading) → next_kind old ≡ Some (kinds.Number n) → TakesNode old place mid
-    → Reads scale_if_any (Part.ScaleIfAny ∷ []) mid bits new → ReadsExpr Part.Prim old (node place (forms.Number n bits)) new
+    → ReadsRule scale_if_any (Part.ScaleIfAny ∷ []) mid bits new → ReadsExpr Part.Prim old (node place (forms.Number n bits)) new
 literal_read n bits place old mid new next t scaled =
     let read = node_token (kinds.Number n) old place mid t next in
     record {
@@ -112,7 +112,7 @@ axis_is called along is = chosen_axis called (bytes_eq called (codes "x")) (byte
     (λ h. (bytes_eq-Decides called (codes "x")).0 h) (λ h. (bytes_eq-Decides called (codes "y")).0 h) (λ h. (bytes_eq-Decides called (codes "z")).0 h) is
 
 pub axis_read : (called : List ℕ) (along : Axis) (place : ℕ) (old new : Reading) → next_kind old ≡ Some (kinds.Name called) → axis_at called ≡ Some along
-    → Takes old place new → Reads axis (Part.AxisName ∷ []) old along new
+    → Takes old place new → ReadsRule axis (Part.AxisName ∷ []) old along new
 axis_read called along place old new next is t =
     let found = reads_token Part.Name (kinds.Name called) old place new t next refl (λ depth. refl) in
     record {

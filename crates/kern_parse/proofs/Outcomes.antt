@@ -1,11 +1,11 @@
 -- How a reading by the table ends, told by runs.
-use Rattle.std.proofs.Common.{◌≡◌, ℕ, zero, suc, ◌+◌, ◌<◌, ◌≤◌, List, [], ◌∷◌, ◌++◌, length, take, fold, Bool, true, false, cond, nat_lt, Option, Some, None, refl, sym, ap, subst, arith}
+use Rattle.std.proofs.Common.{◌≡◌, ℕ, zero, suc, ◌+◌, ◌<◌, ◌≤◌, List, [], ◌∷◌, ◌++◌, length, take, fold, Bool, true, false, cond, nat_le, nat_lt, Option, Some, None, refl, sym, ap, subst, arith}
 use Rattle.std.proofs.lemmas.Bool.Decides.{nat_tests}
 use Rattle.kern_token.specs.declared.fault.KernFault.{KernFault}
 use Rattle.kern_token.specs.declared.fault.KernFault.TheVariants as faults
 use Rattle.kern_token.specs.declared.token.Token.{Token}
 use Rattle.kern_tree.specs.FirstFault.{brackets_after}
-use Rattle.kern_parse.specs.Leading.{moves, are_optional, nodes_after, counted, step, reads_on}
+use Rattle.kern_parse.specs.inner.Leading.{moves, are_optional, nodes_after, counted, step, reads_on}
 use Rattle.kern_parse.specs.Required.{Part, Move}
 use Rattle.kern_parse.proofs.FirstTokens.{mark}
 use Rattle.kern_parse.proofs.Runs.{Runs}
@@ -36,10 +36,10 @@ deep_of n h = grind (arith, nat_tests)
 shallow_of : (n : ℕ) → nat_lt 32 n ≡ false → n ≤ 32
 shallow_of n h = grind (arith, nat_tests)
 
-full_of : (n : ℕ) → nat_lt 511 n ≡ true → 511 < n
+full_of : (n : ℕ) → nat_le 512 n ≡ true → 511 < n
 full_of n h = grind (arith, nat_tests)
 
-few_of : (n : ℕ) → nat_lt 511 n ≡ false → n ≤ 511
+few_of : (n : ℕ) → nat_le 512 n ≡ false → n ≤ 511
 few_of n h = grind (arith, nat_tests)
 
 nodes_of_mark : (is_node : Bool) (place nodes : ℕ) (marks : List ℕ) → nodes_after is_node nodes + length marks ≡ nodes + length (mark is_node place ++ marks)
@@ -79,7 +79,7 @@ nothing_passed parts nodes depth few shallow = record { runs = (refl, refl); sha
     shallow_at (suc n) = shallow
 
 module _ (end : ℕ) (parts : List Part) (nodes depth : ℕ) (token : Token) (rest : List Token) (found : Move) (moved : moves parts token.kind ≡ Some found) (few : nodes ≤ 512) (shallow : depth ≤ 32) (result : Option KernFault) where
-  counted_outcome : (is_node full : Bool) → found.is_node ≡ is_node → nat_lt 511 nodes ≡ full → brackets_after depth token.kind ≤ 32
+  counted_outcome : (is_node full : Bool) → found.is_node ≡ is_node → nat_le 512 nodes ≡ full → brackets_after depth token.kind ≤ 32
       → (nodes_after found.is_node nodes ≤ 512 → Outcome end found.then (nodes_after found.is_node nodes) (brackets_after depth token.kind) rest result)
       → Outcome end parts nodes depth (token ∷ rest) (counted is_node full token.place result)
   counted_outcome true true is_node full_is undeep later = too_many [] token rest parts [] found refl (nothing_passed parts nodes depth few shallow) moved undeep is_node (let k : 511 < nodes = full_of nodes full_is in omega arith) refl
@@ -96,9 +96,9 @@ outcome end parts nodes depth [] few shallow = go (are_optional parts) refl
     go true e = passes parts [] (nothing_passed parts nodes depth few shallow) e refl
     go false e = runs_out parts [] (nothing_passed parts nodes depth few shallow) e refl
 outcome end parts nodes depth (token ∷ rest) few shallow =
-    go (nat_lt 32 (brackets_after depth token.kind)) (nat_lt 511 nodes) (moves parts token.kind) refl refl refl (λ found n d. outcome end found.then (nodes_after found.is_node nodes) (brackets_after depth token.kind) rest n d)
+    go (nat_lt 32 (brackets_after depth token.kind)) (nat_le 512 nodes) (moves parts token.kind) refl refl refl (λ found n d. outcome end found.then (nodes_after found.is_node nodes) (brackets_after depth token.kind) rest n d)
   where
-    go : (deep full : Bool) (moved : Option Move) → nat_lt 32 (brackets_after depth token.kind) ≡ deep → nat_lt 511 nodes ≡ full → moves parts token.kind ≡ moved
+    go : (deep full : Bool) (moved : Option Move) → nat_lt 32 (brackets_after depth token.kind) ≡ deep → nat_le 512 nodes ≡ full → moves parts token.kind ≡ moved
         → ((found : Move) → nodes_after found.is_node nodes ≤ 512 → brackets_after depth token.kind ≤ 32 → Outcome end found.then (nodes_after found.is_node nodes) (brackets_after depth token.kind) rest (reads_on end found.then (nodes_after found.is_node nodes) (brackets_after depth token.kind) rest))
         → Outcome end parts nodes depth (token ∷ rest) (step token.place deep full moved (λ found. reads_on end found.then (nodes_after found.is_node nodes) (brackets_after depth token.kind) rest))
     go deep full None deep_is full_is is later = refuses [] token rest parts [] refl (nothing_passed parts nodes depth few shallow) is refl

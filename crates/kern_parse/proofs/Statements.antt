@@ -15,11 +15,11 @@ use Rattle.kern_tree.specs.FirstFault.{brackets_after}
 use Rattle.kern_tree.specs.Grammar.{expr, assignment, block, conditional, stmt_within, stmt_node}
 use Rattle.kern_tree.specs.Rules.{many, token}
 use Rattle.kern_parse.specs.declared.operators.Level.TheVariants as levels
-use Rattle.kern_parse.specs.Found.{ReadsToken, ReadsExpr}
-use Rattle.kern_parse.specs.Leading.{Leads, Halts}
-use Rattle.kern_parse.specs.Reading.{Reading, next_kind, next_place, Takes, TakesNode, IsFull}
+use Rattle.kern_parse.specs.inner.Found.{ReadsToken, ReadsExpr}
+use Rattle.kern_parse.specs.inner.Leading.{Leads, Halts}
+use Rattle.kern_parse.specs.inner.Reading.{Reading, next_kind, next_place, Takes, TakesNode, IsFull}
 use Rattle.kern_parse.specs.Required.{Part, Refuses, move, and_then}
-use Rattle.kern_parse.specs.Stmts.{stmt_inside, ReadsStmt, NoStmt, Lists, ReadsStmts, ReadsBlock, ReadsElse, ReadsAssign, assign_rule, else_rule}
+use Rattle.kern_parse.specs.inner.Stmts.{stmt_inside, ReadsStmt, NoStmt, Lists, ReadsStmts, ReadsBlock, ReadsElse, ReadsAssign, assign_rule, else_rule}
 use Rattle.kern_parse.proofs.Expanding.{stands_for}
 use Rattle.kern_parse.proofs.Expressions.{within_more, less_by_one, many_snoc}
 use Rattle.kern_parse.proofs.Following.{leads_then, leads_first, shorter_by_token, strictly_shorter, node_token}

@@ -1,12 +1,12 @@
 -- One token of a reading.
-use Rattle.std.proofs.Common.{◌≡◌, ℕ, ◌+◌, ◌<◌, ◌≤◌, List, [], ◌∷◌, ◌++◌, Bool, true, false, ◌&&◌, cond, nat_lt, Option, Some, None, refl, ap, ap₂, ◌∙◌, arith}
+use Rattle.std.proofs.Common.{◌≡◌, ℕ, ◌+◌, ◌<◌, ◌≤◌, List, [], ◌∷◌, ◌++◌, Bool, true, false, ◌&&◌, cond, nat_le, nat_lt, Option, Some, None, refl, ap, ap₂, ◌∙◌, arith}
 use Rattle.std.proofs.lemmas.Bool.Decides.{nat_tests}
 use Rattle.kern_token.specs.declared.fault.KernFault.TheVariants as faults
 use Rattle.kern_token.specs.declared.token.Token.{Token}
 use Rattle.kern_token.specs.declared.token.TokenKind.{TokenKind}
 use Rattle.kern_tree.specs.FirstFault.{brackets_after}
-use Rattle.kern_parse.specs.Leading.{moves, chosen, are_optional, nodes_after, step, reads_on, fault_of, Leads, Halts}
-use Rattle.kern_parse.specs.Reading.{Reading, first_kind, first_place, next_kind, next_place}
+use Rattle.kern_parse.specs.inner.Leading.{moves, chosen, are_optional, nodes_after, step, reads_on, fault_of, Leads, Halts}
+use Rattle.kern_parse.specs.inner.Reading.{Reading, first_kind, first_place, next_kind, next_place}
 use Rattle.kern_parse.specs.Required.{Part, Move, move, is_optional, Refuses}
 
 -- ---- what may come next
@@ -33,29 +33,29 @@ moves_none kind = refl
 -- ---- a token that isn't a node's
 
 module _ (end : ℕ) (parts : List Part) (nodes depth : ℕ) (token : Token) (rest : List Token) where
-  pub reads_as : (deep full : Bool) (found : Option Move) → nat_lt 32 (brackets_after depth token.kind) ≡ deep → nat_lt 511 nodes ≡ full → moves parts token.kind ≡ found
+  pub reads_as : (deep full : Bool) (found : Option Move) → nat_lt 32 (brackets_after depth token.kind) ≡ deep → nat_le 512 nodes ≡ full → moves parts token.kind ≡ found
       → reads_on end parts nodes depth (token ∷ rest) ≡ step token.place deep full found (λ m. reads_on end m.then (nodes_after m.is_node nodes) (brackets_after depth token.kind) rest)
   unfolding reads_on
   reads_as deep full found deep_is full_is is =
-      ap (λ d. step token.place d (nat_lt 511 nodes) (moves parts token.kind) (λ m. reads_on end m.then (nodes_after m.is_node nodes) (brackets_after depth token.kind) rest)) deep_is
+      ap (λ d. step token.place d (nat_le 512 nodes) (moves parts token.kind) (λ m. reads_on end m.then (nodes_after m.is_node nodes) (brackets_after depth token.kind) rest)) deep_is
       ∙ ap (λ f. step token.place deep f (moves parts token.kind) (λ m. reads_on end m.then (nodes_after m.is_node nodes) (brackets_after depth token.kind) rest)) full_is
       ∙ ap (λ o. step token.place deep full o (λ m. reads_on end m.then (nodes_after m.is_node nodes) (brackets_after depth token.kind) rest)) is
 
   pub reads_refused : moves parts token.kind ≡ None → reads_on end parts nodes depth (token ∷ rest) ≡ Some (faults.Unexpected token.place)
-  reads_refused none = reads_as (nat_lt 32 (brackets_after depth token.kind)) (nat_lt 511 nodes) None refl refl none
+  reads_refused none = reads_as (nat_lt 32 (brackets_after depth token.kind)) (nat_le 512 nodes) None refl refl none
 
   pub reads_deep : (found : Move) → moves parts token.kind ≡ Some found → nat_lt 32 (brackets_after depth token.kind) ≡ true → reads_on end parts nodes depth (token ∷ rest) ≡ Some (faults.TooDeep token.place)
-  reads_deep found is deep = reads_as true (nat_lt 511 nodes) (Some found) deep refl is
+  reads_deep found is deep = reads_as true (nat_le 512 nodes) (Some found) deep refl is
 
   pub reads_plain : (thens : List Part) → moves parts token.kind ≡ Some (record { then = thens; is_node = false }) → nat_lt 32 (brackets_after depth token.kind) ≡ false
       → reads_on end parts nodes depth (token ∷ rest) ≡ reads_on end thens nodes (brackets_after depth token.kind) rest
-  reads_plain thens is shallow = reads_as false (nat_lt 511 nodes) (Some (record { then = thens; is_node = false })) shallow refl is
+  reads_plain thens is shallow = reads_as false (nat_le 512 nodes) (Some (record { then = thens; is_node = false })) shallow refl is
 
-  pub reads_node : (thens : List Part) → moves parts token.kind ≡ Some (record { then = thens; is_node = true }) → nat_lt 32 (brackets_after depth token.kind) ≡ false → nat_lt 511 nodes ≡ false
+  pub reads_node : (thens : List Part) → moves parts token.kind ≡ Some (record { then = thens; is_node = true }) → nat_lt 32 (brackets_after depth token.kind) ≡ false → nat_le 512 nodes ≡ false
       → reads_on end parts nodes depth (token ∷ rest) ≡ reads_on end thens (nodes + 1) (brackets_after depth token.kind) rest
   reads_node thens is shallow few = reads_as false false (Some (record { then = thens; is_node = true })) shallow few is
 
-  pub reads_full : (thens : List Part) → moves parts token.kind ≡ Some (record { then = thens; is_node = true }) → nat_lt 32 (brackets_after depth token.kind) ≡ false → nat_lt 511 nodes ≡ true
+  pub reads_full : (thens : List Part) → moves parts token.kind ≡ Some (record { then = thens; is_node = true }) → nat_lt 32 (brackets_after depth token.kind) ≡ false → nat_le 512 nodes ≡ true
       → reads_on end parts nodes depth (token ∷ rest) ≡ Some (faults.TooManyNodes token.place)
   reads_full thens is shallow full = reads_as false true (Some (record { then = thens; is_node = true })) shallow full is
 
@@ -90,7 +90,7 @@ passed : (part : Part) (later : List Part) (end nodes depth : ℕ) (rest : List 
 unfolding reads_on
 passed part later end nodes depth [] optional none = ap (λ b. cond b None (Some (faults.Unexpected end))) (optional_first part later optional)
 passed part later end nodes depth (token ∷ rest) optional none =
-    ap (λ found. step token.place (nat_lt 32 (brackets_after depth token.kind)) (nat_lt 511 nodes) found (λ m. reads_on end m.then (nodes_after m.is_node nodes) (brackets_after depth token.kind) rest))
+    ap (λ found. step token.place (nat_lt 32 (brackets_after depth token.kind)) (nat_le 512 nodes) found (λ m. reads_on end m.then (nodes_after m.is_node nodes) (brackets_after depth token.kind) rest))
     (moves_passed part later token.kind none optional)
 
 -- the next token can't begin the part, which need not be there
@@ -101,10 +101,10 @@ passes part reading optional none = record { goes = λ later. passed part later 
 pub shallow_test : (n : ℕ) → n ≤ 32 → nat_lt 32 n ≡ false
 shallow_test n h = grind (arith, nat_tests)
 
-pub few_test : (n : ℕ) → n < 512 → nat_lt 511 n ≡ false
+pub few_test : (n : ℕ) → n < 512 → nat_le 512 n ≡ false
 few_test n h = grind (arith, nat_tests)
 
-pub full_test : (n : ℕ) → 512 ≤ n → nat_lt 511 n ≡ true
+pub full_test : (n : ℕ) → 512 ≤ n → nat_le 512 n ≡ true
 full_test n h = grind (arith, nat_tests)
 
 pub deep_test : (n : ℕ) → 33 ≤ n → nat_lt 32 n ≡ true

@@ -8,10 +8,10 @@ use Rattle.kern_token.specs.declared.token.Token.{Token}
 use Rattle.kern_token.specs.declared.token.TokenKind.{TokenKind}
 use Rattle.kern_token.specs.declared.token.TokenKind.TheVariants as kinds
 use Rattle.kern_tree.specs.FirstFault.{brackets_after}
-use Rattle.kern_parse.specs.Found.{ReadsToken}
-use Rattle.kern_parse.specs.Leading.{moves, reads_on, fault_of, Leads, Halts}
-use Rattle.kern_parse.specs.Reading.{Reading, next_kind, first_kind, Takes, TakesNode, IsFull}
-use Rattle.kern_parse.specs.Required.{Part, move, plain, node, same_symbol, exactly_move, Refuses}
+use Rattle.kern_parse.specs.inner.Found.{ReadsToken}
+use Rattle.kern_parse.specs.inner.Leading.{moves, reads_on, fault_of, Leads, Halts}
+use Rattle.kern_parse.specs.inner.Reading.{Reading, next_kind, first_kind, Takes, TakesNode, IsFull}
+use Rattle.kern_parse.specs.Required.{Part, move, plain_move, node_move, same_symbol, exactly_move, Refuses}
 use Rattle.kern_parse.proofs.Steps.{moves_first, reads_plain, reads_node, reads_full, reads_deep, shallow_test, few_test, full_test, deep_test}
 
 some_is : {A : Type 0} {x y : A} → Some x ≡ Some y → x ≡ y
@@ -41,7 +41,7 @@ module _ (part : Part) (thens : List Part) (kind : TokenKind) (old : Reading) (t
   brackets : brackets_after old.depth token.kind ≡ brackets_after old.depth kind
   brackets = ap (brackets_after old.depth) (kind_is old.rest after token kind rest next)
 
-  pub leads_plain : (new : Reading) → move part kind ≡ plain thens → after ≡ new.rest → new.end ≡ old.end → new.nodes ≡ old.nodes
+  pub leads_plain : (new : Reading) → move part kind ≡ plain_move thens → after ≡ new.rest → new.end ≡ old.end → new.nodes ≡ old.nodes
       → brackets_after old.depth kind ≡ new.depth → new.depth ≤ 32 → Leads (part ∷ []) old thens new
   leads_plain new is rest_is end nodes depth shallow = record {
     goes = λ later. at_token later
@@ -49,7 +49,7 @@ module _ (part : Part) (thens : List Part) (kind : TokenKind) (old : Reading) (t
         ∙ sym (at_parts (thens ++ later) new old.end old.nodes (brackets_after old.depth token.kind) after end nodes (sym (brackets ∙ depth)) (sym rest_is));
   }
 
-  pub leads_node : (new : Reading) → move part kind ≡ node thens → after ≡ new.rest → new.end ≡ old.end → new.nodes ≡ old.nodes + 1 → old.nodes < 512
+  pub leads_node : (new : Reading) → move part kind ≡ node_move thens → after ≡ new.rest → new.end ≡ old.end → new.nodes ≡ old.nodes + 1 → old.nodes < 512
       → brackets_after old.depth kind ≡ old.depth → new.depth ≡ old.depth → old.depth ≤ 32 → Leads (part ∷ []) old thens new
   leads_node new is rest_is end nodes few same depth shallow = record {
     goes = λ later. at_token later
@@ -57,14 +57,14 @@ module _ (part : Part) (thens : List Part) (kind : TokenKind) (old : Reading) (t
         ∙ sym (at_parts (thens ++ later) new old.end (old.nodes + 1) (brackets_after old.depth token.kind) after end nodes (depth ∙ sym (brackets ∙ same)) (sym rest_is));
   }
 
-  pub halts_full : move part kind ≡ node thens → 512 ≤ old.nodes → brackets_after old.depth kind ≡ old.depth → old.depth ≤ 32
+  pub halts_full : move part kind ≡ node_move thens → 512 ≤ old.nodes → brackets_after old.depth kind ≡ old.depth → old.depth ≤ 32
       → Halts (part ∷ []) old (faults.TooManyNodes token.place)
   halts_full is full same shallow = record {
     halts = λ later. at_token later
         ∙ reads_full old.end (part ∷ later) old.nodes old.depth token after (thens ++ later) (found later true is) (ap (nat_lt 32) (brackets ∙ same) ∙ shallow_test old.depth shallow) (full_test old.nodes full);
   }
 
-  pub halts_deep : move part kind ≡ plain thens → 33 ≤ brackets_after old.depth kind → Halts (part ∷ []) old (faults.TooDeep token.place)
+  pub halts_deep : move part kind ≡ plain_move thens → 33 ≤ brackets_after old.depth kind → Halts (part ∷ []) old (faults.TooDeep token.place)
   halts_deep is deep = record {
     halts = λ later. at_token later
         ∙ reads_deep old.end (part ∷ later) old.nodes old.depth token after (record { then = thens ++ later; is_node = false }) (found later false is)
@@ -74,17 +74,17 @@ module _ (part : Part) (thens : List Part) (kind : TokenKind) (old : Reading) (t
 -- ---- tokens as the reader takes them
 
 pub takes_plain : (part : Part) (thens : List Part) (kind : TokenKind) (old : Reading) (place : ℕ) (new : Reading) → Takes old place new → next_kind old ≡ Some kind
-    → move part kind ≡ plain thens → brackets_after old.depth kind ≡ old.depth → Leads (part ∷ []) old thens new
+    → move part kind ≡ plain_move thens → brackets_after old.depth kind ≡ old.depth → Leads (part ∷ []) old thens new
 takes_plain part thens kind old place new t next is same =
     leads_plain part thens kind old t.token new.rest t.rest next new is refl t.end t.nodes (same ∙ sym t.depth) (omega (arith, t.shallow, t.depth))
 
 pub takes_node : (part : Part) (thens : List Part) (kind : TokenKind) (old : Reading) (place : ℕ) (new : Reading) → TakesNode old place new → next_kind old ≡ Some kind
-    → move part kind ≡ node thens → brackets_after old.depth kind ≡ old.depth → Leads (part ∷ []) old thens new
+    → move part kind ≡ node_move thens → brackets_after old.depth kind ≡ old.depth → Leads (part ∷ []) old thens new
 takes_node part thens kind old place new t next is same =
     leads_node part thens kind old t.token new.rest t.rest next new is refl t.end t.nodes t.few same t.depth t.shallow
 
 pub full_halts : (part : Part) (thens : List Part) (kind : TokenKind) (old : Reading) (fault : KernFault) → IsFull old fault → next_kind old ≡ Some kind
-    → move part kind ≡ node thens → brackets_after old.depth kind ≡ old.depth → Halts (part ∷ []) old fault
+    → move part kind ≡ node_move thens → brackets_after old.depth kind ≡ old.depth → Halts (part ∷ []) old fault
 full_halts part thens kind old fault t next is same =
     rw t.fault_is (halts_full part thens kind old t.token t.after t.rest next is t.full same t.shallow)
 
@@ -141,7 +141,7 @@ same_symbol-true symbols.Or symbols.Or h = refl
 same_symbol-true symbols.Not symbols.Not h = refl
 same_symbol-true _ _ h = cc
 
-pub exactly_is : (s : Symbol) → move (Part.Exactly s) (kinds.Symbol s) ≡ plain []
+pub exactly_is : (s : Symbol) → move (Part.Exactly s) (kinds.Symbol s) ≡ plain_move []
 exactly_is s = ap exactly_move (same_symbol-refl s)
 
 not_same : (s t : Symbol) (b : Bool) → same_symbol s t ≡ b → (kinds.Symbol t ≡ kinds.Symbol s → ⊥) → exactly_move b ≡ None
@@ -156,7 +156,7 @@ exactly_refused s _ other = refl
 
 -- a token of the kind was read for the part
 pub reads_at : (part : Part) (kind : TokenKind) (old : Reading) (token : Token) (new : Reading) → old.rest ≡ token ∷ new.rest → next_kind old ≡ Some kind
-    → move part kind ≡ plain [] → new.end ≡ old.end → new.nodes ≡ old.nodes → brackets_after old.depth kind ≡ new.depth → new.depth ≤ 32 → ReadsToken part kind old new
+    → move part kind ≡ plain_move [] → new.end ≡ old.end → new.nodes ≡ old.nodes → brackets_after old.depth kind ≡ new.depth → new.depth ≤ 32 → ReadsToken part kind old new
 reads_at part kind old token new rest next is end nodes depth shallow = record {
   place = token.place;
   spelled = (token.end, rest ∙ ap (λ k. record { kind = k; place = token.place; end = token.end } ∷ new.rest) (kind_is old.rest new.rest token kind rest next));
@@ -166,7 +166,7 @@ reads_at part kind old token new rest next is end nodes depth shallow = record {
 }
 
 pub reads_token : (part : Part) (kind : TokenKind) (old : Reading) (place : ℕ) (new : Reading) → Takes old place new → next_kind old ≡ Some kind
-    → move part kind ≡ plain [] → ((depth : ℕ) → brackets_after depth kind ≡ depth) → ReadsToken part kind old new
+    → move part kind ≡ plain_move [] → ((depth : ℕ) → brackets_after depth kind ≡ depth) → ReadsToken part kind old new
 reads_token part kind old place new t next is same =
     reads_at part kind old t.token new t.rest next is t.end t.nodes (same old.depth ∙ sym t.depth) (omega (arith, t.shallow, t.depth))
 

@@ -17,9 +17,9 @@ use Rattle.kern_tree.specs.Rules.{Rule, At, ◌or◌, token}
 use Rattle.kern_parse.specs.declared.operators.Call.{Call}
 use Rattle.kern_parse.specs.declared.operators.Level.{Level}
 use Rattle.kern_parse.specs.declared.operators.Level.TheVariants as levels
-use Rattle.kern_parse.specs.Found.{operators, arguments}
-use Rattle.kern_parse.specs.Operators.{binary_of, relation_of, prefix_of, call_of}
-use Rattle.kern_parse.specs.Required.{Part, Refuses, move, node, operand}
+use Rattle.kern_parse.specs.inner.Found.{operators, arguments}
+use Rattle.kern_parse.specs.inner.Operators.{binary_of, relation_of, prefix_of, call_of}
+use Rattle.kern_parse.specs.Required.{Part, Refuses, move, node_move, operand}
 
 some_is : {A : Type 0} {x y : A} → Some x ≡ Some y → x ≡ y
 some_is h = cc
@@ -36,14 +36,14 @@ relations = operator symbols.Lt op2s.Lt or operator symbols.Le op2s.Le or operat
 pub record Tells (part : Part) (thens : List Part) (rule : Rule (At Op2)) (next : Option TokenKind) (op : Op2) : Type 0 where
   pub symbol : Symbol
   pub next_is : next ≡ Some (kinds.Symbol symbol)
-  pub moves : move part (kinds.Symbol symbol) ≡ node thens
+  pub moves : move part (kinds.Symbol symbol) ≡ node_move thens
   pub no_bracket : (depth : ℕ) → brackets_after depth (kinds.Symbol symbol) ≡ depth
   pub spelled : (tokens : List Token) (place : ℕ) (rest : List Token) → token (kinds.Symbol symbol) tokens place rest → rule tokens (record { place = place; held = op }) rest
 
 pub record TellsPrefix (next : Option TokenKind) (op : Op1) : Type 0 where
   pub symbol : Symbol
   pub next_is : next ≡ Some (kinds.Symbol symbol)
-  pub moves : move Part.Unary (kinds.Symbol symbol) ≡ node (Part.Post ∷ [])
+  pub moves : move Part.Unary (kinds.Symbol symbol) ≡ node_move (Part.Post ∷ [])
   pub no_bracket : (depth : ℕ) → brackets_after depth (kinds.Symbol symbol) ≡ depth
   pub spelled : (tokens : List Token) (place : ℕ) (rest : List Token) → token (kinds.Symbol symbol) tokens place rest → prefixes tokens (record { place = place; held = op }) rest
 
@@ -100,14 +100,14 @@ pub no_prefix : (next : Option TokenKind) (kind : TokenKind) → next ≡ Some k
 no_prefix next kind is none = unary_is_post kind (ap prefix_of (sym is) ∙ none)
 
 -- the word of a call, in the table
-pub call_moves : (word : Word) (call : Call) → call_of word ≡ Some call → move Part.Prim (kinds.Word word) ≡ node (arguments call)
-call_moves words.Isqrt call is = ap (λ c. node (arguments c)) (some_is is)
-call_moves words.Abs call is = ap (λ c. node (arguments c)) (some_is is)
-call_moves words.Min call is = ap (λ c. node (arguments c)) (some_is is)
-call_moves words.Max call is = ap (λ c. node (arguments c)) (some_is is)
-call_moves words.Muldiv call is = ap (λ c. node (arguments c)) (some_is is)
-call_moves words.Vec call is = ap (λ c. node (arguments c)) (some_is is)
-call_moves words.To call is = ap (λ c. node (arguments c)) (some_is is)
+pub call_moves : (word : Word) (call : Call) → call_of word ≡ Some call → move Part.Prim (kinds.Word word) ≡ node_move (arguments call)
+call_moves words.Isqrt call is = ap (λ c. node_move (arguments c)) (some_is is)
+call_moves words.Abs call is = ap (λ c. node_move (arguments c)) (some_is is)
+call_moves words.Min call is = ap (λ c. node_move (arguments c)) (some_is is)
+call_moves words.Max call is = ap (λ c. node_move (arguments c)) (some_is is)
+call_moves words.Muldiv call is = ap (λ c. node_move (arguments c)) (some_is is)
+call_moves words.Vec call is = ap (λ c. node_move (arguments c)) (some_is is)
+call_moves words.To call is = ap (λ c. node_move (arguments c)) (some_is is)
 call_moves _ call is = cc
 
 pub no_call : (word : Word) → call_of word ≡ None → move Part.Prim (kinds.Word word) ≡ None

@@ -14,11 +14,11 @@ use Rattle.kern_tree.specs.FirstFault.{IsKernelOf, HasFirstFault, Parses}
 use Rattle.kern_tree.specs.Grammar.{decl, stmt, stmt_within, SpellsKernel}
 use Rattle.kern_tree.specs.Rules.{Rule, many}
 use Rattle.kern_tree.proofs.OneAnswer.{one_answer}
-use Rattle.kern_parse.specs.Found.{Reads}
-use Rattle.kern_parse.specs.Leading.{reads_on, are_optional, Leads, Fails}
-use Rattle.kern_parse.specs.Reading.{Reading, AreInLimit, first_kind, next_kind, first_place, next_place}
+use Rattle.kern_parse.specs.inner.Found.{ReadsRule}
+use Rattle.kern_parse.specs.inner.Leading.{reads_on, are_optional, Leads, Fails}
+use Rattle.kern_parse.specs.inner.Reading.{Reading, AreInLimit, first_kind, next_kind, first_place, next_place}
 use Rattle.kern_parse.specs.Required.{Part}
-use Rattle.kern_parse.specs.Stmts.{ReadsStmts}
+use Rattle.kern_parse.specs.inner.Stmts.{ReadsStmts}
 use Rattle.kern_parse.proofs.FirstFaults.{start, whole, fault_in_text}
 use Rattle.kern_parse.proofs.Following.{leads_then, leads_first}
 use Rattle.kern_parse.proofs.Steps.{reads_refused, moves_none}
@@ -37,7 +37,7 @@ many_wider one other wider tokens [] rest h = h
 many_wider one other wider tokens (v ∷ values) rest h = (h.0, wider tokens v h.0 h.1, many_wider one other wider h.0 values rest h.2)
 
 -- after the declarations and statements
-pub read_leads : (tokens : List Token) (decls : List Decl) (mid : Reading) → Reads (many decl) (Part.Decls ∷ []) (start tokens) decls mid
+pub read_leads : (tokens : List Token) (decls : List Decl) (mid : Reading) → ReadsRule (many decl) (Part.Decls ∷ []) (start tokens) decls mid
     → Leads (Part.Decls ∷ Part.Stmts ∷ []) (start tokens) (Part.Stmts ∷ []) mid
 read_leads tokens decls mid read = leads_first Part.Decls (Part.Stmts ∷ []) read.leads
 
@@ -54,7 +54,7 @@ something_left : (end nodes depth : ℕ) (rest : List Token) (kind : TokenKind) 
 something_left end nodes depth [] kind some = cc
 something_left end nodes depth (token ∷ rest) kind some = reads_refused end [] nodes depth token rest (moves_none token.kind)
 
-pub kernel_read : (tokens : List Token) (decls : List Decl) (body : List Stmt) (mid last : Reading) → Reads (many decl) (Part.Decls ∷ []) (start tokens) decls mid → ReadsStmts mid body last → next_kind last ≡ None
+pub kernel_read : (tokens : List Token) (decls : List Decl) (body : List Stmt) (mid last : Reading) → ReadsRule (many decl) (Part.Decls ∷ []) (start tokens) decls mid → ReadsStmts mid body last → next_kind last ≡ None
     → IsKernelOf tokens (record { decls = decls; body = body })
 kernel_read tokens decls body mid last declared stated none =
     let rest_is : last.rest ≡ [] = no_rest last.rest none in
@@ -65,7 +65,7 @@ kernel_read tokens decls body mid last declared stated none =
     let lead = leads_then (read_leads tokens decls mid declared) stated.reads.leads in
     whole tokens (record { decls = decls; body = body }) spelled (lead.goes [] ∙ nothing_left last.end last.nodes last.depth last.rest none)
 
-pub rest_read : (text : List ℕ) (tokens : List Token) (decls : List Decl) (body : List Stmt) (mid last : Reading) (kind : TokenKind) → Spells text tokens → Reads (many decl) (Part.Decls ∷ []) (start tokens) decls mid → ReadsStmts mid body last
+pub rest_read : (text : List ℕ) (tokens : List Token) (decls : List Decl) (body : List Stmt) (mid last : Reading) (kind : TokenKind) → Spells text tokens → ReadsRule (many decl) (Part.Decls ∷ []) (start tokens) decls mid → ReadsStmts mid body last
     → next_kind last ≡ Some kind → HasFirstFault tokens (faults.Unexpected (next_place last))
 rest_read text tokens decls body mid last kind h declared stated some =
     let lead = leads_then (read_leads tokens decls mid declared) stated.reads.leads in

@@ -1,10 +1,5 @@
-pub mod Decls
-pub mod Found
-pub mod Leading
-pub mod Operators
-pub mod Reading
 pub mod Required
-pub mod Stmts
+pub mod inner
 pub use Rattle.kern_tree.specs.FirstFault
 pub use Rattle.kern_tree.specs.Grammar
 pub use Rattle.kern_tree.specs.Nodes

@@ -70,61 +70,61 @@ pub record Move : Type 0 where
   pub then : List Part
   pub is_node : Bool
 
-abbrev pub node : List Part → Option Move
-node parts = Some (record { then = parts; is_node = true })
+abbrev pub node_move : List Part → Option Move
+node_move parts = Some (record { then = parts; is_node = true })
 
-abbrev pub plain : List Part → Option Move
-plain parts = Some (record { then = parts; is_node = false })
+abbrev pub plain_move : List Part → Option Move
+plain_move parts = Some (record { then = parts; is_node = false })
 
 abbrev pub and_then : Option Move → List Part → Option Move
 and_then None parts = None
 and_then (Some move) parts = Some (record { then = move.then ++ parts; is_node = move.is_node })
 
 abbrev pub decl_move : Word → Option Move
-decl_move words.Epi = node (Part.KindWord ∷ Part.Scale ∷ Part.Name ∷ Part.Exactly symbols.Colon ∷ Part.Name ∷ Part.Exactly symbols.Semicolon ∷ Part.Decls ∷ [])
-decl_move words.Epj = node (Part.KindWord ∷ Part.Scale ∷ Part.Name ∷ Part.Exactly symbols.Colon ∷ Part.Name ∷ Part.Exactly symbols.Semicolon ∷ Part.Decls ∷ [])
-decl_move words.Force = node (Part.KindWord ∷ Part.Scale ∷ Part.Name ∷ Part.CombineWord ∷ Part.Exactly symbols.Semicolon ∷ Part.Decls ∷ [])
-decl_move words.Param = node (Part.Scale ∷ Part.Name ∷ Part.Exactly symbols.Assign ∷ Part.Signed ∷ Part.Exactly symbols.Semicolon ∷ Part.Decls ∷ [])
+decl_move words.Epi = node_move (Part.KindWord ∷ Part.Scale ∷ Part.Name ∷ Part.Exactly symbols.Colon ∷ Part.Name ∷ Part.Exactly symbols.Semicolon ∷ Part.Decls ∷ [])
+decl_move words.Epj = node_move (Part.KindWord ∷ Part.Scale ∷ Part.Name ∷ Part.Exactly symbols.Colon ∷ Part.Name ∷ Part.Exactly symbols.Semicolon ∷ Part.Decls ∷ [])
+decl_move words.Force = node_move (Part.KindWord ∷ Part.Scale ∷ Part.Name ∷ Part.CombineWord ∷ Part.Exactly symbols.Semicolon ∷ Part.Decls ∷ [])
+decl_move words.Param = node_move (Part.Scale ∷ Part.Name ∷ Part.Exactly symbols.Assign ∷ Part.Signed ∷ Part.Exactly symbols.Semicolon ∷ Part.Decls ∷ [])
 decl_move _ = None
 
 abbrev pub kind_move : Word → Option Move
-kind_move words.Num = plain []
-kind_move words.Vec = plain []
+kind_move words.Num = plain_move []
+kind_move words.Vec = plain_move []
 kind_move _ = None
 
 abbrev pub combine_move : Word → Option Move
-combine_move words.Sum = plain []
-combine_move words.Max = plain []
-combine_move words.Min = plain []
+combine_move words.Sum = plain_move []
+combine_move words.Max = plain_move []
+combine_move words.Min = plain_move []
 combine_move _ = None
 
 abbrev pub call_move : Word → Option Move
-call_move words.Isqrt = node (Part.Exactly symbols.OpenRound ∷ Part.Chain levels.Or ∷ Part.Exactly symbols.CloseRound ∷ [])
-call_move words.Abs = node (Part.Exactly symbols.OpenRound ∷ Part.Chain levels.Or ∷ Part.Exactly symbols.CloseRound ∷ [])
-call_move words.To = node (Part.Exactly symbols.OpenRound ∷ Part.Number ∷ Part.Exactly symbols.Comma ∷ Part.Chain levels.Or ∷ Part.Exactly symbols.CloseRound ∷ [])
-call_move words.Min = node (Part.Exactly symbols.OpenRound ∷ Part.Chain levels.Or ∷ Part.Exactly symbols.Comma ∷ Part.Chain levels.Or ∷ Part.Exactly symbols.CloseRound ∷ [])
-call_move words.Max = node (Part.Exactly symbols.OpenRound ∷ Part.Chain levels.Or ∷ Part.Exactly symbols.Comma ∷ Part.Chain levels.Or ∷ Part.Exactly symbols.CloseRound ∷ [])
-call_move words.Muldiv = node (Part.Exactly symbols.OpenRound ∷ Part.Chain levels.Or ∷ Part.Exactly symbols.Comma ∷ Part.Chain levels.Or ∷ Part.Exactly symbols.Comma ∷ Part.Chain levels.Or ∷ Part.Exactly symbols.CloseRound ∷ [])
-call_move words.Vec = node (Part.Exactly symbols.OpenRound ∷ Part.Chain levels.Or ∷ Part.Exactly symbols.Comma ∷ Part.Chain levels.Or ∷ Part.Exactly symbols.Comma ∷ Part.Chain levels.Or ∷ Part.Exactly symbols.CloseRound ∷ [])
+call_move words.Isqrt = node_move (Part.Exactly symbols.OpenRound ∷ Part.Chain levels.Or ∷ Part.Exactly symbols.CloseRound ∷ [])
+call_move words.Abs = node_move (Part.Exactly symbols.OpenRound ∷ Part.Chain levels.Or ∷ Part.Exactly symbols.CloseRound ∷ [])
+call_move words.To = node_move (Part.Exactly symbols.OpenRound ∷ Part.Number ∷ Part.Exactly symbols.Comma ∷ Part.Chain levels.Or ∷ Part.Exactly symbols.CloseRound ∷ [])
+call_move words.Min = node_move (Part.Exactly symbols.OpenRound ∷ Part.Chain levels.Or ∷ Part.Exactly symbols.Comma ∷ Part.Chain levels.Or ∷ Part.Exactly symbols.CloseRound ∷ [])
+call_move words.Max = node_move (Part.Exactly symbols.OpenRound ∷ Part.Chain levels.Or ∷ Part.Exactly symbols.Comma ∷ Part.Chain levels.Or ∷ Part.Exactly symbols.CloseRound ∷ [])
+call_move words.Muldiv = node_move (Part.Exactly symbols.OpenRound ∷ Part.Chain levels.Or ∷ Part.Exactly symbols.Comma ∷ Part.Chain levels.Or ∷ Part.Exactly symbols.Comma ∷ Part.Chain levels.Or ∷ Part.Exactly symbols.CloseRound ∷ [])
+call_move words.Vec = node_move (Part.Exactly symbols.OpenRound ∷ Part.Chain levels.Or ∷ Part.Exactly symbols.Comma ∷ Part.Chain levels.Or ∷ Part.Exactly symbols.Comma ∷ Part.Chain levels.Or ∷ Part.Exactly symbols.CloseRound ∷ [])
 call_move _ = None
 
 abbrev pub exactly_move : Bool → Option Move
-exactly_move true = plain []
+exactly_move true = plain_move []
 exactly_move false = None
 
 abbrev pub prim_move : TokenKind → Option Move
-prim_move (kinds.Number number) = node (Part.ScaleIfAny ∷ [])
-prim_move (kinds.Name name) = node []
+prim_move (kinds.Number number) = node_move (Part.ScaleIfAny ∷ [])
+prim_move (kinds.Name name) = node_move []
 prim_move (kinds.Word word) = call_move word
-prim_move (kinds.Symbol symbols.OpenRound) = plain (Part.Chain levels.Or ∷ Part.Exactly symbols.CloseRound ∷ [])
+prim_move (kinds.Symbol symbols.OpenRound) = plain_move (Part.Chain levels.Or ∷ Part.Exactly symbols.CloseRound ∷ [])
 prim_move _ = None
 
 abbrev pub post_move : TokenKind → Option Move
 post_move kind = and_then (prim_move kind) (Part.MorePost ∷ [])
 
 abbrev pub unary_move : TokenKind → Option Move
-unary_move (kinds.Symbol symbols.Minus) = node (Part.Post ∷ [])
-unary_move (kinds.Symbol symbols.Not) = node (Part.Post ∷ [])
+unary_move (kinds.Symbol symbols.Minus) = node_move (Part.Post ∷ [])
+unary_move (kinds.Symbol symbols.Not) = node_move (Part.Post ∷ [])
 unary_move kind = post_move kind
 
 abbrev pub product_move : TokenKind → Option Move
@@ -157,7 +157,7 @@ operand levels.Product = Part.Unary
 
 -- after an operator of the level, another operand
 abbrev pub next_operand : Level → Option Move
-next_operand level = node (operand level ∷ Part.More level ∷ [])
+next_operand level = node_move (operand level ∷ Part.More level ∷ [])
 
 abbrev pub more_move : Level → TokenKind → Option Move
 more_move levels.Or (kinds.Symbol symbols.Or) = next_operand levels.Or
@@ -169,17 +169,17 @@ more_move levels.Product (kinds.Symbol symbols.Slash) = next_operand levels.Prod
 more_move _ _ = None
 
 abbrev pub relation_move : Symbol → Option Move
-relation_move symbols.Lt = node (Part.Chain levels.Sum ∷ [])
-relation_move symbols.Le = node (Part.Chain levels.Sum ∷ [])
-relation_move symbols.Gt = node (Part.Chain levels.Sum ∷ [])
-relation_move symbols.Ge = node (Part.Chain levels.Sum ∷ [])
-relation_move symbols.Eq = node (Part.Chain levels.Sum ∷ [])
-relation_move symbols.Ne = node (Part.Chain levels.Sum ∷ [])
+relation_move symbols.Lt = node_move (Part.Chain levels.Sum ∷ [])
+relation_move symbols.Le = node_move (Part.Chain levels.Sum ∷ [])
+relation_move symbols.Gt = node_move (Part.Chain levels.Sum ∷ [])
+relation_move symbols.Ge = node_move (Part.Chain levels.Sum ∷ [])
+relation_move symbols.Eq = node_move (Part.Chain levels.Sum ∷ [])
+relation_move symbols.Ne = node_move (Part.Chain levels.Sum ∷ [])
 relation_move _ = None
 
 abbrev pub stmts_move : TokenKind → Option Move
-stmts_move (kinds.Name name) = node (Part.Assign ∷ Part.Chain levels.Or ∷ Part.Exactly symbols.Semicolon ∷ Part.Stmts ∷ [])
-stmts_move (kinds.Word words.If) = node (Part.Chain levels.Or ∷ Part.Block ∷ Part.ElseBlock ∷ Part.Stmts ∷ [])
+stmts_move (kinds.Name name) = node_move (Part.Assign ∷ Part.Chain levels.Or ∷ Part.Exactly symbols.Semicolon ∷ Part.Stmts ∷ [])
+stmts_move (kinds.Word words.If) = node_move (Part.Chain levels.Or ∷ Part.Block ∷ Part.ElseBlock ∷ Part.Stmts ∷ [])
 stmts_move _ = None
 
 -- the axis that a component's name tells
@@ -187,7 +187,7 @@ abbrev pub axis_at : List ℕ → Option Axis
 axis_at name = cond (bytes_eq name (codes "x")) (Some axes.X) (cond (bytes_eq name (codes "y")) (Some axes.Y) (cond (bytes_eq name (codes "z")) (Some axes.Z) None))
 
 abbrev pub axis_move : Option Axis → Option Move
-axis_move (Some along) = plain []
+axis_move (Some along) = plain_move []
 axis_move None = None
 
 -- what comes after a token of this kind, where it can begin the part
@@ -196,16 +196,16 @@ move Part.Decls (kinds.Word word) = decl_move word
 move Part.Stmts kind = stmts_move kind
 move Part.KindWord (kinds.Word word) = kind_move word
 move Part.CombineWord (kinds.Word word) = combine_move word
-move Part.Scale (kinds.Scale bits) = plain []
-move Part.ScaleIfAny (kinds.Scale bits) = plain []
-move Part.Name (kinds.Name name) = plain []
-move Part.Number (kinds.Number number) = plain []
-move Part.Signed (kinds.Number number) = plain []
-move Part.Signed (kinds.Symbol symbols.Minus) = plain (Part.Number ∷ [])
-move Part.Assign (kinds.Symbol symbols.Assign) = plain []
-move Part.Assign (kinds.Symbol symbols.Add) = plain []
-move Part.Block (kinds.Symbol symbols.OpenCurly) = plain (Part.Stmts ∷ Part.Exactly symbols.CloseCurly ∷ [])
-move Part.ElseBlock (kinds.Word words.Else) = plain (Part.Block ∷ [])
+move Part.Scale (kinds.Scale bits) = plain_move []
+move Part.ScaleIfAny (kinds.Scale bits) = plain_move []
+move Part.Name (kinds.Name name) = plain_move []
+move Part.Number (kinds.Number number) = plain_move []
+move Part.Signed (kinds.Number number) = plain_move []
+move Part.Signed (kinds.Symbol symbols.Minus) = plain_move (Part.Number ∷ [])
+move Part.Assign (kinds.Symbol symbols.Assign) = plain_move []
+move Part.Assign (kinds.Symbol symbols.Add) = plain_move []
+move Part.Block (kinds.Symbol symbols.OpenCurly) = plain_move (Part.Stmts ∷ Part.Exactly symbols.CloseCurly ∷ [])
+move Part.ElseBlock (kinds.Word words.Else) = plain_move (Part.Block ∷ [])
 move (Part.Exactly wanted) (kinds.Symbol symbol) = exactly_move (same_symbol wanted symbol)
 move (Part.Chain level) kind = chain_move level kind
 move (Part.More level) kind = more_move level kind
@@ -213,7 +213,7 @@ move Part.Rel kind = rel_move kind
 move Part.MoreRel (kinds.Symbol symbol) = relation_move symbol
 move Part.Unary kind = unary_move kind
 move Part.Post kind = post_move kind
-move Part.MorePost (kinds.Symbol symbols.Dot) = node (Part.AxisName ∷ Part.MorePost ∷ [])
+move Part.MorePost (kinds.Symbol symbols.Dot) = node_move (Part.AxisName ∷ Part.MorePost ∷ [])
 move Part.Prim kind = prim_move kind
 move Part.AxisName (kinds.Name name) = axis_move (axis_at name)
 move _ _ = None

@@ -2,10 +2,10 @@ ghost use Rattle.std.specs.Prelude.{◌≡◌, [], ◌∷◌, Some, IfOk, MatchR
 ghost use Rattle.std.specs.Int.{w64};
 ghost use Rattle.kern_tree.specs.Grammar.{kind, combine, signed, decl};
 ghost use Rattle.kern_tree.specs.Rules.{many};
-ghost use Rattle.kern_parse.specs.Decls.{ReadsDecl, start_of, kind_of, combine_of, word_of};
-ghost use Rattle.kern_parse.specs.Found.{Reads};
-ghost use Rattle.kern_parse.specs.Leading.{Fails};
-ghost use Rattle.kern_parse.specs.Reading.{next_kind};
+ghost use Rattle.kern_parse.specs.inner.Decls.{ReadsDecl, start_of, kind_of, combine_of, word_of};
+ghost use Rattle.kern_parse.specs.inner.Found.{ReadsRule};
+ghost use Rattle.kern_parse.specs.inner.Leading.{Fails};
+ghost use Rattle.kern_parse.specs.inner.Reading.{next_kind};
 ghost use Rattle.kern_parse.specs.Required.{Part};
 ghost use Rattle.std.specs.Option.{option_copied};
 
@@ -74,7 +74,7 @@ fn combine_of(next: Option<&TokenKind>) -> Option<Combine>
 
 impl Reader<'_> {
     pub(crate) fn declarations(&mut self) -> Result<Items<Decl>, KernFault>
-        ensures { MatchResult result (λ decls. Reads (many decl) (Part.Decls ∷ []) self.old decls self.new)
+        ensures { MatchResult result (λ decls. ReadsRule (many decl) (Part.Decls ∷ []) self.old decls self.new)
             (λ fault. Fails (Part.Decls ∷ []) self.old fault) }
     {
         let mut decls = Items::new(self.alloc());
@@ -149,7 +149,7 @@ impl Reader<'_> {
     }
 
     fn kind(&mut self) -> Result<Kind, KernFault>
-        ensures { MatchResult result (λ k. Reads kind (Part.KindWord ∷ []) self.old k self.new)
+        ensures { MatchResult result (λ k. ReadsRule kind (Part.KindWord ∷ []) self.old k self.new)
             (λ fault. Fails (Part.KindWord ∷ []) self.old fault) }
     {
         let Some(kind) = kind_of(self.next()) else {
@@ -160,7 +160,7 @@ impl Reader<'_> {
     }
 
     fn combine(&mut self) -> Result<Combine, KernFault>
-        ensures { MatchResult result (λ way. Reads combine (Part.CombineWord ∷ []) self.old way self.new)
+        ensures { MatchResult result (λ way. ReadsRule combine (Part.CombineWord ∷ []) self.old way self.new)
             (λ fault. Fails (Part.CombineWord ∷ []) self.old fault) }
     {
         let Some(combine) = combine_of(self.next()) else {
@@ -171,7 +171,7 @@ impl Reader<'_> {
     }
 
     fn signed_number(&mut self) -> Result<i64, KernFault>
-        ensures read { MatchResult result (λ value. Reads signed (Part.Signed ∷ []) self.old value self.new)
+        ensures read { MatchResult result (λ value. ReadsRule signed (Part.Signed ∷ []) self.old value self.new)
             (λ fault. Fails (Part.Signed ∷ []) self.old fault) }
         ensures fits { IfOk result (λ value. FitsSigned w64 value) }
     {

@@ -1,8 +1,8 @@
 ghost use Rattle.std.specs.Prelude.{◌≡◌, [], ◌∷◌, Some, MatchResult};
 ghost use Rattle.kern_tree.specs.Grammar.{axis, to_scale};
-ghost use Rattle.kern_parse.specs.Found.{Reads, ReadsExpr, ReadsCall, ReadsBracketed, IsCalled, arguments, scale_if_any};
-ghost use Rattle.kern_parse.specs.Leading.{Fails};
-ghost use Rattle.kern_parse.specs.Reading.{next_kind};
+ghost use Rattle.kern_parse.specs.inner.Found.{ReadsRule, ReadsExpr, ReadsCall, ReadsBracketed, IsCalled, arguments, scale_if_any};
+ghost use Rattle.kern_parse.specs.inner.Leading.{Fails};
+ghost use Rattle.kern_parse.specs.inner.Reading.{next_kind};
 ghost use Rattle.kern_parse.specs.Required.{Part, operand, axis_at};
 
 use crate::kinds::{name_in, scale_in};
@@ -108,9 +108,9 @@ impl Reader<'_> {
         ensures { MatchResult result (λ e. ReadsBracketed self.old e self.new)
             (λ fault. Fails (Part.Exactly Symbol.OpenRound ∷ Part.Chain Level.Or ∷ Part.Exactly Symbol.CloseRound ∷ []) self.old fault) }
     {
-        self.open(Symbol::OpenRound)?;
+        self.open_bracket(Symbol::OpenRound)?;
         let inner = self.chain(Level::Or)?;
-        self.close(Symbol::CloseRound)?;
+        self.close_bracket(Symbol::CloseRound)?;
         Ok(inner)
     }
 
@@ -137,11 +137,11 @@ impl Reader<'_> {
         ensures { MatchResult result (λ e. ReadsCall (Call.Two op) place self.old e self.new)
             (λ fault. Fails (arguments (Call.Two op)) self.old fault) }
     {
-        self.open(Symbol::OpenRound)?;
+        self.open_bracket(Symbol::OpenRound)?;
         let a = self.chain(Level::Or)?;
         self.symbol(Symbol::Comma)?;
         let b = self.chain(Level::Or)?;
-        self.close(Symbol::CloseRound)?;
+        self.close_bracket(Symbol::CloseRound)?;
         nodes::two(self.alloc(), place, op, a, b)
     }
 
@@ -150,13 +150,13 @@ impl Reader<'_> {
         ensures { MatchResult result (λ e. ReadsCall (Call.Three op) place self.old e self.new)
             (λ fault. Fails (arguments (Call.Three op)) self.old fault) }
     {
-        self.open(Symbol::OpenRound)?;
+        self.open_bracket(Symbol::OpenRound)?;
         let a = self.chain(Level::Or)?;
         self.symbol(Symbol::Comma)?;
         let b = self.chain(Level::Or)?;
         self.symbol(Symbol::Comma)?;
         let c = self.chain(Level::Or)?;
-        self.close(Symbol::CloseRound)?;
+        self.close_bracket(Symbol::CloseRound)?;
         nodes::three(self.alloc(), place, op, a, b, c)
     }
 
@@ -165,11 +165,11 @@ impl Reader<'_> {
         ensures { MatchResult result (λ e. ReadsCall (Call.To) place self.old e self.new)
             (λ fault. Fails (arguments (Call.To)) self.old fault) }
     {
-        self.open(Symbol::OpenRound)?;
+        self.open_bracket(Symbol::OpenRound)?;
         let scale = scale_from(self.number()?);
         self.symbol(Symbol::Comma)?;
         let inner = self.chain(Level::Or)?;
-        self.close(Symbol::CloseRound)?;
+        self.close_bracket(Symbol::CloseRound)?;
         nodes::to(self.alloc(), place, scale, inner)
     }
 
@@ -187,7 +187,7 @@ impl Reader<'_> {
     }
 
     fn scale_if_any(&mut self) -> u32
-        ensures { Reads scale_if_any (Part.ScaleIfAny ∷ []) self.old result self.new }
+        ensures { ReadsRule scale_if_any (Part.ScaleIfAny ∷ []) self.old result self.new }
     {
         let Some(bits) = scale_in(self.next()) else {
             return 0;
@@ -210,7 +210,7 @@ impl Reader<'_> {
     }
 
     fn axis(&mut self) -> Result<Axis, KernFault>
-        ensures { MatchResult result (λ a. Reads axis (Part.AxisName ∷ []) self.old a self.new)
+        ensures { MatchResult result (λ a. ReadsRule axis (Part.AxisName ∷ []) self.old a self.new)
             (λ fault. Fails (Part.AxisName ∷ []) self.old fault) }
     {
         let Some(name) = name_in(self.next()) else {

@@ -1,6 +1,6 @@
 ghost use Rattle.std.specs.Prelude.{◌≡◌};
 ghost use Rattle.std.specs.Option.{option_copied};
-ghost use Rattle.kern_parse.specs.Operators as spec;
+ghost use Rattle.kern_parse.specs.inner.Operators as spec;
 
 use kern_token::{Symbol, TokenKind, Word};
 use kern_tree::{Op1, Op2, Op3};

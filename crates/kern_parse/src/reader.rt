@@ -2,22 +2,17 @@ ghost use Rattle.std.specs.Prelude.{◌≡◌, ◌<◌, ◌≤◌, ◌^◌, ◌+
 ghost use Rattle.std.specs.Option.{option_copied};
 ghost use Rattle.kern_token.specs.declared.fault.KernFault.TheVariants.{Memory};
 ghost use Rattle.kern_tree.specs.FirstFault.{brackets_after, end_of};
-ghost use Rattle.kern_parse.specs.Found.{ReadsToken};
-ghost use Rattle.kern_parse.specs.Leading.{Halts};
-ghost use Rattle.kern_parse.specs.Reading.{AreInLimit, next_kind, next_place, Takes, TakesNode, IsFull};
+ghost use Rattle.kern_parse.specs.inner.Found.{ReadsToken};
+ghost use Rattle.kern_parse.specs.inner.Leading.{Halts};
+ghost use Rattle.kern_parse.specs.inner.Reading.{AreInLimit, next_kind, next_place, Takes, TakesNode, IsFull};
 ghost use Rattle.kern_parse.specs.Required.{Part, Refuses};
 
 use crate::KernFault;
 use crate::kinds::{name_in, scale_in};
 use kern_token::{Name, Symbol, Token, TokenKind, Word};
+use kern_tree::{MOST_NODES, MOST_OPEN};
 use std::alloc::Global;
 use std::marker::Model;
-
-/// The most brackets that may be open at a place.
-const MOST_OPEN: u32 = 32;
-
-/// The most nodes that a kernel may have.
-const MOST_NODES: u32 = 512;
 
 /// What is left to read of a kernel's tokens, and the counts that have limits.
 #[derive(Drop)]
@@ -27,18 +22,19 @@ pub(crate) struct Reader<'a> {
     // Where the last token of the whole text ends.
     end: u32,
     nodes: u32,
-    open: u32,
+    depth: u32,
 }
 
 impl<'a> Model for Reader<'a> {
     ghost use Rattle.std.specs.Prelude.{◌≤◌};
-    ghost use Rattle.kern_parse.specs.Reading.{Reading, AreInLimit};
+    ghost use Rattle.kern_tree.specs.declared.limits.TheConstants.{MOST_NODES, MOST_OPEN};
+    ghost use Rattle.kern_parse.specs.inner.Reading.{Reading, AreInLimit};
 
     ghost Value = { Reading };
 
-    ghost view = { λ r. record { rest = r.rest.now; end = r.end; nodes = r.nodes; depth = r.open } };
+    ghost view = { λ r. record { rest = r.rest.now; end = r.end; nodes = r.nodes; depth = r.depth } };
 
-    ghost invariant = { λ r. (r.nodes ≤ 512) × (r.open ≤ 32) × AreInLimit r.rest.now };
+    ghost invariant = { λ r. (r.nodes ≤ MOST_NODES) × (r.depth ≤ MOST_OPEN) × AreInLimit r.rest.now };
 }
 
 impl<'a> Reader<'a> {
@@ -55,7 +51,7 @@ impl<'a> Reader<'a> {
             rest: toks,
             end,
             nodes: 0,
-            open: 0,
+            depth: 0,
         }
     }
 
@@ -146,7 +142,7 @@ impl<'a> Reader<'a> {
         Ok(())
     }
 
-    pub(crate) fn open(&mut self, bracket: Symbol) -> Result<(), KernFault>
+    pub(crate) fn open_bracket(&mut self, bracket: Symbol) -> Result<(), KernFault>
         requires { (depth : ℕ) → brackets_after depth (TokenKind.Symbol bracket) ≡ depth + 1 }
         ensures ok { OnOk result (ReadsToken (Part.Exactly bracket) (TokenKind.Symbol bracket) self.old self.new) }
         ensures err { IfErr result (λ fault. Halts (Part.Exactly bracket ∷ []) self.old fault) }
@@ -155,15 +151,15 @@ impl<'a> Reader<'a> {
             return Err(self.unexpected());
         }
         let place = self.take();
-        if self.open == MOST_OPEN {
+        if self.depth == MOST_OPEN {
             return Err(KernFault::TooDeep(place));
         }
-        self.open += 1;
+        self.depth += 1;
         Ok(())
     }
 
-    pub(crate) fn close(&mut self, bracket: Symbol) -> Result<(), KernFault>
-        requires open { 0 < self.old.depth }
+    pub(crate) fn close_bracket(&mut self, bracket: Symbol) -> Result<(), KernFault>
+        requires any_open { 0 < self.old.depth }
         requires closes { (depth : ℕ) → brackets_after depth (TokenKind.Symbol bracket) ≡ depth - 1 }
         ensures ok { OnOk result (ReadsToken (Part.Exactly bracket) (TokenKind.Symbol bracket) self.old self.new) }
         ensures err { IfErr result (λ fault. Halts (Part.Exactly bracket ∷ []) self.old fault) }
@@ -172,7 +168,7 @@ impl<'a> Reader<'a> {
             return Err(self.unexpected());
         }
         self.take();
-        self.open -= 1;
+        self.depth -= 1;
         Ok(())
     }
 

@@ -27,6 +27,3 @@ pub fn parse(alloc: Global, toks: &[Token]) -> Result<Kernel, KernFault>
         Some(_) => Err(reader.unexpected()),
     }
 }
-
-#[cfg(test)]
-mod tests;

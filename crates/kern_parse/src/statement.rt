@@ -1,8 +1,8 @@
 ghost use Rattle.std.specs.Prelude.{◌≡◌, [], ◌∷◌, Some, IfOk, IfErr, MatchResult};
-ghost use Rattle.kern_parse.specs.Leading.{Fails};
-ghost use Rattle.kern_parse.specs.Reading.{next_kind};
+ghost use Rattle.kern_parse.specs.inner.Leading.{Fails};
+ghost use Rattle.kern_parse.specs.inner.Reading.{next_kind};
 ghost use Rattle.kern_parse.specs.Required.{Part};
-ghost use Rattle.kern_parse.specs.Stmts.{FindsStmt, ReadsStmt, ReadsStmts, ReadsBlock, ReadsElse, ReadsAssign};
+ghost use Rattle.kern_parse.specs.inner.Stmts.{FindsStmt, ReadsStmt, ReadsStmts, ReadsBlock, ReadsElse, ReadsAssign};
 
 use crate::KernFault;
 use crate::kinds::name_in;
@@ -110,9 +110,9 @@ impl Reader<'_> {
         ensures { MatchResult result (λ stmts. ReadsBlock self.old stmts self.new)
             (λ fault. Fails (Part.Block ∷ []) self.old fault) }
     {
-        self.open(Symbol::OpenCurly)?;
+        self.open_bracket(Symbol::OpenCurly)?;
         let stmts = self.statements()?;
-        self.close(Symbol::CloseCurly)?;
+        self.close_bracket(Symbol::CloseCurly)?;
         Ok(stmts)
     }
 }

@@ -8,7 +8,7 @@ use Rattle.kern_token.specs.declared.token.TokenKind.TheVariants as kinds
 use Rattle.kern_token.specs.declared.token.Word.{Word}
 use Rattle.kern_token.specs.declared.token.Word.TheVariants as words
 use Rattle.kern_token.specs.Pieces.{Piece, IsName}
-use Rattle.kern_token.specs.Reading.{end_of}
+use Rattle.kern_token.specs.Reading.{place_after}
 use Rattle.kern_token.specs.Spelling.{word_text}
 use Rattle.kern_tree.specs.declared.kernel.Combine.{Combine}
 use Rattle.kern_tree.specs.declared.kernel.Combine.TheVariants as combines
@@ -211,7 +211,7 @@ decl_reads (held.param {bits = bits} {called = n} {value = v} limit name value) 
               q,
               _,
               (q + 1, ap (λ (x : List Token). record { kind = kinds.Symbol symbols.Assign; place = q; end = q + 1 } ∷ x) (onto-append r (small_pieces value) last_pieces rest)),
-              (v, _, small_reads value r (onto (end_of r (small_pieces value)) last_pieces rest), (_, rest, (_, refl), (refl, refl))),
+              (v, _, small_reads value r (onto (place_after r (small_pieces value)) last_pieces rest), (_, rest, (_, refl), (refl, refl))),
             ),
           ),
         ),
@@ -227,7 +227,7 @@ pub record DeclsAgain (tokens : List Token) (ds : List Decl) (rest : List Token)
 pub decls_read : {ds : List Decl} (h : HeldDecls ds) (place : ℕ) (rest : List Token) → DeclsAgain (onto place (decls_pieces h) rest) ds rest
 decls_read held.done_decls place rest = record { read = []; same = refl; count = refl; reads = refl }
 decls_read (held.more_decls {d = d} {ds = ds} h hs) place rest =
-    let q : ℕ = end_of place (decl_pieces h) in
+    let q : ℕ = place_after place (decl_pieces h) in
     let first = decl_reads h place (onto q (decls_pieces hs) rest) in
     let others = decls_read hs q rest in
     record {

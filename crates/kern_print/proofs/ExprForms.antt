@@ -10,44 +10,44 @@ use Rattle.kern_tree.specs.declared.expr.Op1.{Op1}
 use Rattle.kern_tree.specs.declared.expr.Op2.{Op2}
 use Rattle.kern_tree.specs.declared.expr.Op3.{Op3}
 use Rattle.pf_geom.specs.declared.axis.Axis.{Axis}
-use Rattle.kern_print.specs.Expressions.{Operand, bracketed, operand_of, form_operand, operand_text, three_text}
+use Rattle.kern_print.specs.Expressions.{Operand, in_brackets, operand_of, form_operand, operand_text, three_text}
 
-by_fold : (a : Expr) → fold-Expr Operand Operand bracketed operand_of a ≡ operand_text a
-by_fold a = fold_out-Expr Operand Operand bracketed operand_of a
+by_fold : (a : Expr) → fold-Expr Operand Operand in_brackets operand_of a ≡ operand_text a
+by_fold a = fold_out-Expr Operand Operand in_brackets operand_of a
 
-pub number_form : (mantissa bits : ℕ) → form_operand (forms.Number mantissa bits) ≡ bracketed (layers.Number mantissa bits)
-number_form m b = ap form_operand (sym (forms.rolls-Number m b)) ∙ fold-roll-Form Operand Operand bracketed operand_of (layers.Number m b)
+pub number_form : (mantissa bits : ℕ) → form_operand (forms.Number mantissa bits) ≡ in_brackets (layers.Number mantissa bits)
+number_form m b = ap form_operand (sym (forms.rolls-Number m b)) ∙ fold-roll-Form Operand Operand in_brackets operand_of (layers.Number m b)
 
-pub name_form : (called : List ℕ) → form_operand (forms.Name called) ≡ bracketed (layers.Name called)
-name_form n = ap form_operand (sym (forms.rolls-Name n)) ∙ fold-roll-Form Operand Operand bracketed operand_of (layers.Name n)
+pub name_form : (called : List ℕ) → form_operand (forms.Name called) ≡ in_brackets (layers.Name called)
+name_form n = ap form_operand (sym (forms.rolls-Name n)) ∙ fold-roll-Form Operand Operand in_brackets operand_of (layers.Name n)
 
-pub part_form : (a : Expr) (axis : Axis) → form_operand (forms.Part a axis) ≡ bracketed (layers.Part (operand_text a) axis)
+pub part_form : (a : Expr) (axis : Axis) → form_operand (forms.Part a axis) ≡ in_brackets (layers.Part (operand_text a) axis)
 part_form a axis =
-    ap form_operand (sym (forms.rolls-Part a axis)) ∙ fold-roll-Form Operand Operand bracketed operand_of (layers.Part a axis)
-    ∙ ap (λ x. bracketed (layers.Part x axis)) (by_fold a)
+    ap form_operand (sym (forms.rolls-Part a axis)) ∙ fold-roll-Form Operand Operand in_brackets operand_of (layers.Part a axis)
+    ∙ ap (λ x. in_brackets (layers.Part x axis)) (by_fold a)
 
-pub one_form : (op : Op1) (a : Expr) → form_operand (forms.One op a) ≡ bracketed (layers.One op (operand_text a))
+pub one_form : (op : Op1) (a : Expr) → form_operand (forms.One op a) ≡ in_brackets (layers.One op (operand_text a))
 one_form op a =
-    ap form_operand (sym (forms.rolls-One op a)) ∙ fold-roll-Form Operand Operand bracketed operand_of (layers.One op a)
-    ∙ ap (λ x. bracketed (layers.One op x)) (by_fold a)
+    ap form_operand (sym (forms.rolls-One op a)) ∙ fold-roll-Form Operand Operand in_brackets operand_of (layers.One op a)
+    ∙ ap (λ x. in_brackets (layers.One op x)) (by_fold a)
 
-pub two_form : (op : Op2) (a b : Expr) → form_operand (forms.Two op a b) ≡ bracketed (layers.Two op (operand_text a) (operand_text b))
+pub two_form : (op : Op2) (a b : Expr) → form_operand (forms.Two op a b) ≡ in_brackets (layers.Two op (operand_text a) (operand_text b))
 two_form op a b =
-    ap form_operand (sym (forms.rolls-Two op a b)) ∙ fold-roll-Form Operand Operand bracketed operand_of (layers.Two op a b)
-    ∙ ap (λ x. bracketed (layers.Two op x (fold-Expr Operand Operand bracketed operand_of b))) (by_fold a)
-    ∙ ap (λ y. bracketed (layers.Two op (operand_text a) y)) (by_fold b)
+    ap form_operand (sym (forms.rolls-Two op a b)) ∙ fold-roll-Form Operand Operand in_brackets operand_of (layers.Two op a b)
+    ∙ ap (λ x. in_brackets (layers.Two op x (fold-Expr Operand Operand in_brackets operand_of b))) (by_fold a)
+    ∙ ap (λ y. in_brackets (layers.Two op (operand_text a) y)) (by_fold b)
 
-pub three_form : (op : Op3) (a b c : Expr) → form_operand (forms.Three op a b c) ≡ bracketed (layers.Three op (operand_text a) (operand_text b) (operand_text c))
+pub three_form : (op : Op3) (a b c : Expr) → form_operand (forms.Three op a b c) ≡ in_brackets (layers.Three op (operand_text a) (operand_text b) (operand_text c))
 three_form op a b c =
-    ap form_operand (sym (forms.rolls-Three op a b c)) ∙ fold-roll-Form Operand Operand bracketed operand_of (layers.Three op a b c)
-    ∙ ap (λ x. bracketed (layers.Three op x (fold-Expr Operand Operand bracketed operand_of b) (fold-Expr Operand Operand bracketed operand_of c))) (by_fold a)
-    ∙ ap (λ y. bracketed (layers.Three op (operand_text a) y (fold-Expr Operand Operand bracketed operand_of c))) (by_fold b)
-    ∙ ap (λ z. bracketed (layers.Three op (operand_text a) (operand_text b) z)) (by_fold c)
+    ap form_operand (sym (forms.rolls-Three op a b c)) ∙ fold-roll-Form Operand Operand in_brackets operand_of (layers.Three op a b c)
+    ∙ ap (λ x. in_brackets (layers.Three op x (fold-Expr Operand Operand in_brackets operand_of b) (fold-Expr Operand Operand in_brackets operand_of c))) (by_fold a)
+    ∙ ap (λ y. in_brackets (layers.Three op (operand_text a) y (fold-Expr Operand Operand in_brackets operand_of c))) (by_fold b)
+    ∙ ap (λ z. in_brackets (layers.Three op (operand_text a) (operand_text b) z)) (by_fold c)
 
-pub to_form : (scale : ℕ) (a : Expr) → form_operand (forms.To scale a) ≡ bracketed (layers.To scale (operand_text a))
+pub to_form : (scale : ℕ) (a : Expr) → form_operand (forms.To scale a) ≡ in_brackets (layers.To scale (operand_text a))
 to_form scale a =
-    ap form_operand (sym (forms.rolls-To scale a)) ∙ fold-roll-Form Operand Operand bracketed operand_of (layers.To scale a)
-    ∙ ap (λ x. bracketed (layers.To scale x)) (by_fold a)
+    ap form_operand (sym (forms.rolls-To scale a)) ∙ fold-roll-Form Operand Operand in_brackets operand_of (layers.To scale a)
+    ∙ ap (λ x. in_brackets (layers.To scale x)) (by_fold a)
 
 -- what is pushed in turn is the text of a call with three operands
 pub three_pushed : (op : Op3) (a b c : Expr) (form : Form) (head start one two three whole : List ℕ) → form ≡ forms.Three op a b c

@@ -3,7 +3,7 @@ use Rattle.std.proofs.Common.{◌≡◌, ℕ, suc, ◌+◌, ◌≤◌, refl, sym
 use Rattle.std.specs.List.{AllByRecursion, flat_map}
 use Rattle.kern_token.specs.declared.token.Token.{Token}
 use Rattle.kern_token.specs.Pieces.{Piece, IsPiece, Begins}
-use Rattle.kern_token.specs.Reading.{Spells, Splits, StandsIn, token_of, tokens_of, end_of}
+use Rattle.kern_token.specs.Reading.{Spells, Splits, StandsIn, token_of, tokens_of, place_after}
 use Rattle.kern_token.specs.Stopping.{StopsBefore}
 use Rattle.kern_tree.specs.declared.kernel.Decl.{Decl}
 use Rattle.kern_tree.specs.declared.kernel.Kernel.{Kernel}
@@ -13,7 +13,7 @@ use Rattle.kern_tree.specs.Grammar.{stmt, stmt_within}
 use Rattle.kern_tree.specs.Nodes.{kernel_nodes, stmt_nodes}
 use Rattle.kern_tree.specs.Rules.{many}
 use Rattle.kern_print.specs.Canonical.{canonical_text, decl_text}
-use Rattle.kern_print.specs.Laws.{ReadsAs, CanonicalReadsBack}
+use Rattle.kern_print.specs.ReadingBack.{ReadsAs, CanonicalReadsBack}
 use Rattle.kern_print.specs.Places.{decl_without_places, stmt_without_places}
 use Rattle.kern_print.proofs.Decls.{decls_pieces, decls_stop, decls_bytes, decls_read}
 use Rattle.kern_print.proofs.HeldStmts.{HeldBlock, HeldDecls}
@@ -45,7 +45,7 @@ module _ (stopped : (piece : Piece) (rest : List ℕ) → IsPiece piece → Stop
   held_reads_back k ds body few =
       let dp : List Piece = decls_pieces ds in
       let bp : List Piece = block_pieces body in
-      let q : ℕ = end_of 0 dp in
+      let q : ℕ = place_after 0 dp in
       let text_is : canonical_text k ≡ bytes_of (dp ++ bp) =
       ap (λ x. flat_map decl_text k.decls ++ x) (block_bytes body) ∙ behind dp bp (flat_map decl_text k.decls) (decls_bytes ds) in
       let stops : Stops (dp ++ bp) [] = Stops-append dp bp [] (decls_stop ds (bytes_of bp ++ [])) (block_stops body []) in

@@ -8,7 +8,7 @@ use Rattle.kern_token.specs.declared.token.TokenKind.{TokenKind}
 use Rattle.kern_token.specs.declared.token.TokenKind.TheVariants as kinds
 use Rattle.kern_token.specs.declared.token.Word.{Word}
 use Rattle.kern_token.specs.Pieces.{Piece}
-use Rattle.kern_token.specs.Reading.{token_of, end_of}
+use Rattle.kern_token.specs.Reading.{token_of, place_after}
 use Rattle.kern_tree.specs.declared.expr.Expr.{Expr}
 use Rattle.kern_tree.specs.declared.expr.Form.TheVariants as forms
 use Rattle.kern_tree.specs.declared.expr.Op1.{Op1}
@@ -30,7 +30,7 @@ abbrev pub onto : ℕ → List Piece → List Token → List Token
 onto place [] rest = rest
 onto place (p ∷ ps) rest = token_of place (place + length p.bytes) p.kind ++ onto (place + length p.bytes) ps rest
 
-pub onto-append : (place : ℕ) (ps qs : List Piece) (rest : List Token) → onto place (ps ++ qs) rest ≡ onto place ps (onto (end_of place ps) qs rest)
+pub onto-append : (place : ℕ) (ps qs : List Piece) (rest : List Token) → onto place (ps ++ qs) rest ≡ onto place ps (onto (place_after place ps) qs rest)
 onto-append place [] qs rest = refl
 onto-append place (p ∷ ps) qs rest = ap (λ x. token_of place (place + length p.bytes) p.kind ++ x) (onto-append (place + length p.bytes) ps qs rest)
 
@@ -158,11 +158,11 @@ call3_prim inside held.muldiv tokens e rest h = inr (inl (inr h))
 call3_prim inside held.build tokens e rest h = inr (inr h)
 
 -- the bracket before some pieces
-opened : (place : ℕ) (ps qs : List Piece) (rest : List Token) → symbol symbols.OpenRound (onto place (sym_of symbols.OpenRound ∷ (ps ++ qs)) rest) place (onto (place + 1) ps (onto (end_of (place + 1) ps) qs rest))
+opened : (place : ℕ) (ps qs : List Piece) (rest : List Token) → symbol symbols.OpenRound (onto place (sym_of symbols.OpenRound ∷ (ps ++ qs)) rest) place (onto (place + 1) ps (onto (place_after (place + 1) ps) qs rest))
 opened place ps qs rest = (place + 1, ap (λ x. tok (kinds.Symbol symbols.OpenRound) place (place + 1) ∷ x) (onto-append (place + 1) ps qs rest))
 
 -- the comma before some pieces
-commaed : (place : ℕ) (ps qs : List Piece) (rest : List Token) → symbol symbols.Comma (onto place (sym_of symbols.Comma ∷ gap ∷ (ps ++ qs)) rest) place (onto (place + 1 + 1) ps (onto (end_of (place + 1 + 1) ps) qs rest))
+commaed : (place : ℕ) (ps qs : List Piece) (rest : List Token) → symbol symbols.Comma (onto place (sym_of symbols.Comma ∷ gap ∷ (ps ++ qs)) rest) place (onto (place + 1 + 1) ps (onto (place_after (place + 1 + 1) ps) qs rest))
 commaed place ps qs rest = (place + 1, ap (λ x. tok (kinds.Symbol symbols.Comma) place (place + 1) ∷ x) (onto-append (place + 1 + 1) ps qs rest))
 
 to_scale_same : (n : ℕ) → n < 2 ^ 32 → to_scale n ≡ n
@@ -197,7 +197,7 @@ mutual
   }
   bare_reads (held.part {place = p} {axis = axis} h) k deep place rest =
       let pa : List Piece = held_pieces h in
-      let r : ℕ = end_of place pa in
+      let r : ℕ = place_after place pa in
       let tail : List Piece = sym_of symbols.Dot ∷ name_of (axis_name axis) ∷ [] in
       let a = held_reads h k deep place (onto r tail rest) in
       record {
@@ -223,7 +223,7 @@ mutual
   bare_reads (held.two {place = p} {level = level} {left = left} {s = s} {op = op} known h g) k deep place rest =
       let pa : List Piece = held_pieces h in
       let pb : List Piece = held_pieces g in
-      let r : ℕ = end_of place pa in
+      let r : ℕ = place_after place pa in
       let q : ℕ = r + 1 + length (sym_of s).bytes in
       let tail : List Piece = gap ∷ sym_of s ∷ gap ∷ pb in
       let a = held_reads h k deep place (onto r tail rest) in
@@ -238,7 +238,7 @@ mutual
   bare_reads (held.call1 {place = p} {w = w} {op = op} known d h) (suc k) deep place rest =
       let pa : List Piece = held_pieces h in
       let q : ℕ = place + length (word_of w).bytes in
-      let a = held_reads h k (omega arith) (q + 1) (onto (end_of (q + 1) pa) closed rest) in
+      let a = held_reads h k (omega arith) (q + 1) (onto (place_after (q + 1) pa) closed rest) in
       record {
         read = node place (forms.One op a.read);
         alike = alike_one p place op a.alike;
@@ -250,10 +250,10 @@ mutual
       let pa : List Piece = held_pieces h in
       let pb : List Piece = held_pieces g in
       let q : ℕ = place + length (word_of w).bytes in
-      let r : ℕ = end_of (q + 1) pa in
+      let r : ℕ = place_after (q + 1) pa in
       let tail : List Piece = sym_of symbols.Comma ∷ gap ∷ (pb ++ closed) in
       let a = held_reads h k (omega arith) (q + 1) (onto r tail rest) in
-      let b = held_reads g k (omega arith) (r + 1 + 1) (onto (end_of (r + 1 + 1) pb) closed rest) in
+      let b = held_reads g k (omega arith) (r + 1 + 1) (onto (place_after (r + 1 + 1) pb) closed rest) in
       record {
         read = node place (forms.Two op a.read b.read);
         alike = alike_two p place op a.alike b.alike;
@@ -280,13 +280,13 @@ mutual
       let pb : List Piece = held_pieces g in
       let pc : List Piece = held_pieces f in
       let q : ℕ = place + length (word_of w).bytes in
-      let r : ℕ = end_of (q + 1) pa in
-      let t : ℕ = end_of (r + 1 + 1) pb in
+      let r : ℕ = place_after (q + 1) pa in
+      let t : ℕ = place_after (r + 1 + 1) pb in
       let last : List Piece = sym_of symbols.Comma ∷ gap ∷ (pc ++ closed) in
       let tail : List Piece = sym_of symbols.Comma ∷ gap ∷ (pb ++ last) in
       let a = held_reads h k (omega arith) (q + 1) (onto r tail rest) in
       let b = held_reads g k (omega arith) (r + 1 + 1) (onto t last rest) in
-      let c = held_reads f k (omega arith) (t + 1 + 1) (onto (end_of (t + 1 + 1) pc) closed rest) in
+      let c = held_reads f k (omega arith) (t + 1 + 1) (onto (place_after (t + 1 + 1) pc) closed rest) in
       record {
         read = node place (forms.Three op a.read b.read c.read);
         alike = alike_three p place op a.alike b.alike c.alike;
@@ -322,7 +322,7 @@ mutual
       let pa : List Piece = held_pieces h in
       let q : ℕ = place + 2 + 1 in
       let r : ℕ = q + length (number_of bits).bytes in
-      let a = held_reads h k (omega arith) (r + 1 + 1) (onto (end_of (r + 1 + 1) pa) closed rest) in
+      let a = held_reads h k (omega arith) (r + 1 + 1) (onto (place_after (r + 1 + 1) pa) closed rest) in
       record {
         read = node place (forms.To bits a.read);
         alike = alike_to p place bits a.alike;
@@ -355,7 +355,7 @@ mutual
   held_reads (held.bracket n d b) zero deep place rest = absurd (omega arith)
   held_reads {needed = needed} (held.bracket {level = level} n d b) (suc k) deep place rest =
       let pb : List Piece = bare_pieces b in
-      let a = bare_reads b k (omega arith) (place + 1) (onto (end_of (place + 1) pb) closed rest) in
+      let a = bare_reads b k (omega arith) (place + 1) (onto (place_after (place + 1) pb) closed rest) in
       record {
         read = a.read;
         alike = a.alike;

@@ -6,7 +6,7 @@ use Rattle.kern_token.specs.declared.token.TokenKind.{TokenKind}
 use Rattle.kern_token.specs.declared.token.TokenKind.TheVariants as kinds
 use Rattle.kern_token.specs.declared.token.Word.TheVariants as words
 use Rattle.kern_token.specs.Pieces.{Piece}
-use Rattle.kern_token.specs.Reading.{end_of}
+use Rattle.kern_token.specs.Reading.{place_after}
 use Rattle.kern_tree.specs.declared.expr.Expr.{Expr}
 use Rattle.kern_tree.specs.declared.stmt.Act.TheVariants as acts
 use Rattle.kern_tree.specs.declared.stmt.Stmt.{Stmt}
@@ -33,7 +33,7 @@ onto_spaces (suc n) place rest = onto_spaces n (place + 1) rest
 
 -- where a line's text begins
 abbrev pub start : ℕ → ℕ → ℕ
-start depth place = end_of place (spaces (2 * depth))
+start depth place = place_after place (spaces (2 * depth))
 
 pub onto_line : (depth place : ℕ) (ps : List Piece) (rest : List Token) → onto place (line_pieces depth ps) rest ≡ onto (start depth place) ps rest
 onto_line depth place ps rest =
@@ -90,7 +90,7 @@ set_again inside p n h place rest =
     let q : ℕ = place + length n + 1 in
     let r : ℕ = q + 1 + 1 in
     let tail : List Piece = sym_of symbols.Semicolon ∷ [] in
-    let a = expr_again h r (onto (end_of r (held_pieces h)) tail rest) in
+    let a = expr_again h r (onto (place_after r (held_pieces h)) tail rest) in
     record {
       read = stmt_node place (acts.Set n a.read);
       alike = alike_set p place n a.alike;
@@ -113,7 +113,7 @@ give_again inside p n h place rest =
     let q : ℕ = place + length n + 1 in
     let r : ℕ = q + 2 + 1 in
     let tail : List Piece = sym_of symbols.Semicolon ∷ [] in
-    let a = expr_again h r (onto (end_of r (held_pieces h)) tail rest) in
+    let a = expr_again h r (onto (place_after r (held_pieces h)) tail rest) in
     record {
       read = stmt_node place (acts.Give n a.read);
       alike = alike_give p place n a.alike;
@@ -144,8 +144,8 @@ else_again k depth (held.more {s = s} {ss = ss} h hs) again place rest =
     let ps : List Piece = stmt_pieces h ++ block_pieces hs in
     let last : List Piece = line_pieces depth close_pieces in
     let first : List Piece = line_pieces depth else_head in
-    let q : ℕ = end_of place first in
-    let r : ℕ = end_of place (first ++ ps) in
+    let q : ℕ = place_after place first in
+    let r : ℕ = place_after place (first ++ ps) in
     let s0 : ℕ = start depth place in
     let a = again q (onto r last rest) in
     record {
@@ -169,11 +169,11 @@ mutual
       let bb : List Piece = block_pieces body in
       let ee : List Piece = else_pieces depth others (block_pieces other) ++ line_pieces depth close_pieces in
       let first : List Piece = line_pieces depth (head_pieces pc) in
-      let q1 : ℕ = end_of place first in
-      let q2 : ℕ = end_of q1 bb in
+      let q1 : ℕ = place_after place first in
+      let q2 : ℕ = place_after q1 bb in
       let s0 : ℕ = start depth place in
       let s1 : ℕ = s0 + 2 + 1 in
-      let s2 : ℕ = end_of s1 pc + 1 in
+      let s2 : ℕ = place_after s1 pc + 1 in
       let e = else_again k depth other (λ x y. block_again other k (omega arith) x y) q2 rest in
       let b = block_again body k (omega arith) q1 (onto q2 ee rest) in
       let a = expr_again h s1 (tok (kinds.Symbol symbols.OpenCurly) s2 (s2 + 1) ∷ onto q1 (bb ++ ee) rest) in
@@ -202,7 +202,7 @@ mutual
   pub block_again : {depth : ℕ} {ss : List Stmt} (h : HeldBlock depth ss) (k : ℕ) → 32 ≤ depth + k → (place : ℕ) (rest : List Token) → BlockAgain (stmt_within k) (onto place (block_pieces h) rest) ss rest
   block_again held.done k deep place rest = record { read = []; alike = alike_none; reads = refl }
   block_again (held.more {s = s} {ss = ss} h hs) k deep place rest =
-      let q : ℕ = end_of place (stmt_pieces h) in
+      let q : ℕ = place_after place (stmt_pieces h) in
       let a = stmt_again h k deep place (onto q (block_pieces hs) rest) in
       let b = block_again hs k deep q rest in
       record {

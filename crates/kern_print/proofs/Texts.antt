@@ -15,7 +15,7 @@ use Rattle.kern_tree.specs.declared.expr.Op3.{Op3}
 use Rattle.kern_tree.specs.Grammar.{axis_name}
 use Rattle.pf_geom.specs.declared.axis.Axis.{Axis}
 use Rattle.pf_geom.specs.declared.axis.Axis.TheVariants as axes
-use Rattle.kern_print.specs.Expressions.{Operand, bracketed, operand_text, literal_text, axis_text}
+use Rattle.kern_print.specs.Expressions.{Operand, in_brackets, operand_text, literal_text, axis_text}
 use Rattle.kern_print.proofs.ExprForms.{number_form, name_form, part_form, one_form, two_form, three_form, to_form}
 use Rattle.kern_print.proofs.Held.{Bare, Held, bare, bracket, literal, variable, part, sign, two, call1, call2, call3, to, Infix, or, and, lt, le, gt, ge, eq, ne, add, sub, mul, div, Sign, neg, not, Call1, isqrt, abs, Call2, least, most, Call3, muldiv, build}
 use Rattle.kern_print.proofs.Spelled.{bare_pieces, held_pieces, literal_pieces, closed}
@@ -33,7 +33,7 @@ lower level needed h = grind (arith, nat_tests)
 
 -- ---- operators and calls
 
-infix_shown : {level left : ℕ} {s : Symbol} {op : Op2} → Infix level left s op → (x y : Operand) (n : ℕ) → bracketed (layers.Two op x y) n ≡ shown level n (x left ++ (32 ∷ symbol_text s ++ 32 ∷ []) ++ y (suc level))
+infix_shown : {level left : ℕ} {s : Symbol} {op : Op2} → Infix level left s op → (x y : Operand) (n : ℕ) → in_brackets (layers.Two op x y) n ≡ shown level n (x left ++ (32 ∷ symbol_text s ++ 32 ∷ []) ++ y (suc level))
 infix_shown or x y n = refl
 infix_shown and x y n = refl
 infix_shown lt x y n = refl
@@ -47,19 +47,19 @@ infix_shown sub x y n = refl
 infix_shown mul x y n = refl
 infix_shown div x y n = refl
 
-sign_shown : {s : Symbol} {op : Op1} → Sign s op → (x : Operand) (n : ℕ) → bracketed (layers.One op x) n ≡ shown 6 n (symbol_text s ++ x 7)
+sign_shown : {s : Symbol} {op : Op1} → Sign s op → (x : Operand) (n : ℕ) → in_brackets (layers.One op x) n ≡ shown 6 n (symbol_text s ++ x 7)
 sign_shown neg x n = refl
 sign_shown not x n = refl
 
-call1_shown : {w : Word} {op : Op1} → Call1 w op → (x : Operand) (n : ℕ) → bracketed (layers.One op x) n ≡ shown 7 n (word_text w ++ (40 ∷ (x 1 ++ 41 ∷ [])))
+call1_shown : {w : Word} {op : Op1} → Call1 w op → (x : Operand) (n : ℕ) → in_brackets (layers.One op x) n ≡ shown 7 n (word_text w ++ (40 ∷ (x 1 ++ 41 ∷ [])))
 call1_shown isqrt x n = refl
 call1_shown abs x n = refl
 
-call2_shown : {w : Word} {op : Op2} → Call2 w op → (x y : Operand) (n : ℕ) → bracketed (layers.Two op x y) n ≡ shown 7 n (word_text w ++ (40 ∷ (x 1 ++ codes ", " ++ y 1 ++ 41 ∷ [])))
+call2_shown : {w : Word} {op : Op2} → Call2 w op → (x y : Operand) (n : ℕ) → in_brackets (layers.Two op x y) n ≡ shown 7 n (word_text w ++ (40 ∷ (x 1 ++ codes ", " ++ y 1 ++ 41 ∷ [])))
 call2_shown least x y n = refl
 call2_shown most x y n = refl
 
-call3_shown : {w : Word} {op : Op3} → Call3 w op → (x y z : Operand) (n : ℕ) → bracketed (layers.Three op x y z) n ≡ shown 7 n (word_text w ++ (40 ∷ (x 1 ++ codes ", " ++ y 1 ++ codes ", " ++ z 1 ++ 41 ∷ [])))
+call3_shown : {w : Word} {op : Op3} → Call3 w op → (x y z : Operand) (n : ℕ) → in_brackets (layers.Three op x y z) n ≡ shown 7 n (word_text w ++ (40 ∷ (x 1 ++ codes ", " ++ y 1 ++ codes ", " ++ z 1 ++ 41 ∷ [])))
 call3_shown muldiv x y z n = refl
 call3_shown build x y z n = refl
 

@@ -101,15 +101,15 @@ form_text (forms.Three op a b c) = three_text op a b c
 form_text (forms.To scale a) = codes "to(" ++ decimal scale ++ codes ", " ++ a 1 ++ codes ")"
 
 -- brackets stand where the level is lower than the one that is needed
-abbrev pub bracketed : Form-F Operand Operand → Operand
-bracketed form needed = if nat_lt (level form) needed then codes "(" ++ form_text form ++ codes ")" else form_text form
+abbrev pub in_brackets : Form-F Operand Operand → Operand
+in_brackets form needed = if nat_lt (level form) needed then codes "(" ++ form_text form ++ codes ")" else form_text form
 
 abbrev pub operand_of : Expr-F Operand Operand → Operand
 operand_of expr = expr.form
 
 -- an expression in an operand's place
 abbrev pub form_operand : Form → Operand
-form_operand = fold-Form Operand Operand bracketed operand_of
+form_operand = fold-Form Operand Operand in_brackets operand_of
 
 abbrev pub operand_text : Expr → Operand
 operand_text expr = form_operand expr.form

@@ -1,4 +1,4 @@
 pub mod Canonical
 pub mod Expressions
-pub mod Laws
 pub mod Places
+pub mod ReadingBack

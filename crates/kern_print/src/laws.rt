@@ -1,4 +1,4 @@
-ghost use Rattle.kern_print.specs.Laws.{CanonicalReadsBack};
+ghost use Rattle.kern_print.specs.ReadingBack.{CanonicalReadsBack};
 
 use kern_token::{stopped_pieces, tokens_stand_in_order};
 

@@ -12,6 +12,3 @@ mod stmt;
 
 pub use kernel::print;
 pub use laws::canonical_reads_back;
-
-#[cfg(test)]
-mod tests;

@@ -12,7 +12,7 @@ use Rattle.kern_token.specs.declared.token.TokenKind.TheVariants as kinds
 use Rattle.kern_token.specs.declared.token.Word.{Word}
 use Rattle.kern_token.specs.declared.token.Word.TheVariants as words
 use Rattle.kern_token.specs.Pieces.{Piece, Begins, IsPiece, IsScale}
-use Rattle.kern_token.specs.Reading.{IsInLimit, Splits, end_of, tokens_of, Spells, BeginsBadly, BeginsTooLarge, IsFaultAt, HasFirstFault, Reads}
+use Rattle.kern_token.specs.Reading.{IsInLimit, Splits, place_after, tokens_of, Spells, BeginsBadly, BeginsTooLarge, IsFaultAt, HasFirstTokenFault, Reads}
 use Rattle.kern_token.specs.Spelling.{word_text}
 use Rattle.kern_token.proofs.Tables.{same_word, same_symbol}
 use Rattle.kern_token.proofs.FirstBytes.{class_of_kind, class_of_piece, IsPiece-nonempty}
@@ -157,9 +157,9 @@ same_fault (faults.TooDeep a) other place text p q = absurd p
 same_fault (faults.TooManyNodes a) other place text p q = absurd p
 same_fault faults.Memory other place text p q = absurd p
 
-spelled_or_faulty : (text : List ℕ) (tokens : List Token) (fault : KernFault) → Spells text tokens → HasFirstFault text fault → ⊥
+spelled_or_faulty : (text : List ℕ) (tokens : List Token) (fault : KernFault) → Spells text tokens → HasFirstTokenFault text fault → ⊥
 spelled_or_faulty text tokens fault p q =
-    let stops = fault_stops fault (end_of 0 q.pieces) q.rest q.fault_is in
+    let stops = fault_stops fault (place_after 0 q.pieces) q.rest q.fault_is in
     let same = same_split p.pieces q.pieces text [] q.rest p.whole q.before stops_at_end stops.0 in
     omega (arith, stops.1, ap length same.rest_is)
 
@@ -170,13 +170,13 @@ same_reading text (Ok tokens) (Ok others) p q =
 same_reading text (Ok tokens) (Err fault) p q = absurd (spelled_or_faulty text tokens fault p q)
 same_reading text (Err fault) (Ok tokens) p q = absurd (spelled_or_faulty text tokens fault q p)
 same_reading text (Err a) (Err b) p q =
-    let p_stops = fault_stops a (end_of 0 p.pieces) p.rest p.fault_is in
-    let q_stops = fault_stops b (end_of 0 q.pieces) q.rest q.fault_is in
+    let p_stops = fault_stops a (place_after 0 p.pieces) p.rest p.fault_is in
+    let q_stops = fault_stops b (place_after 0 q.pieces) q.rest q.fault_is in
     let same = same_split p.pieces q.pieces text p.rest q.rest p.before q.before p_stops.0 q_stops.0 in
-    let moved = subst (λ (ps : List Piece). IsFaultAt a (end_of 0 ps) q.rest) same.pieces_are (subst (λ (t : List ℕ). IsFaultAt a (end_of 0 p.pieces) t) same.rest_is p.fault_is) in
-    ap Err (same_fault a b (end_of 0 q.pieces) q.rest moved q.fault_is)
+    let moved = subst (λ (ps : List Piece). IsFaultAt a (place_after 0 ps) q.rest) same.pieces_are (subst (λ (t : List ℕ). IsFaultAt a (place_after 0 p.pieces) t) same.rest_is p.fault_is) in
+    ap Err (same_fault a b (place_after 0 q.pieces) q.rest moved q.fault_is)
 
 -- a fault that is right is the one reading
-pub gives_fault : (text : List ℕ) (fault : KernFault) → (fault ≡ faults.Memory) ⊎ HasFirstFault text fault → (reading : Result (List Token) KernFault) → Reads text reading → (fault ≡ faults.Memory) ⊎ (reading ≡ Err fault)
+pub gives_fault : (text : List ℕ) (fault : KernFault) → (fault ≡ faults.Memory) ⊎ HasFirstTokenFault text fault → (reading : Result (List Token) KernFault) → Reads text reading → (fault ≡ faults.Memory) ⊎ (reading ≡ Err fault)
 gives_fault text fault faulty reading reads =
     ⊎_elim inl (λ first. inr (same_reading text reading (Err fault) reads first)) faulty

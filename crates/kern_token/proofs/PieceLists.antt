@@ -7,7 +7,7 @@ use Rattle.kern_token.specs.declared.front.Front.{Front}
 use Rattle.kern_token.specs.declared.token.Token.{Token}
 use Rattle.kern_token.specs.Front.{HasFront, piece_of}
 use Rattle.kern_token.specs.Pieces.{Piece, Begins}
-use Rattle.kern_token.specs.Reading.{IsInLimit, Splits, end_of, token_of, tokens_of, Spells, IsFaultAt, HasFirstFault}
+use Rattle.kern_token.specs.Reading.{IsInLimit, Splits, place_after, token_of, tokens_of, Spells, IsFaultAt, HasFirstTokenFault}
 use Rattle.kern_token.proofs.FirstBytes.{IsPiece-nonempty}
 
 -- the pieces before this place have these tokens, and the rest follows
@@ -15,7 +15,7 @@ pub record HasRead (text : List ℕ) (tokens : List Token) (place : ℕ) (rest :
   pub pieces : List Piece
   pub before : Splits text pieces rest
   pub tokens_are : tokens ≡ tokens_of 0 pieces
-  pub place_is : place ≡ end_of 0 pieces
+  pub place_is : place ≡ place_after 0 pieces
   pub length_is : place + length rest ≡ length text
 
 pub HasRead-none : (text : List ℕ) → HasRead text [] 0 text
@@ -33,16 +33,16 @@ Splits-push text rest after [] piece split begins in_limit =
 Splits-push text rest after (first ∷ pieces) piece split begins in_limit =
     (split.0, split.1, split.2, Splits-push split.0 rest after pieces piece split.3 begins in_limit)
 
-end_of-push : (place : ℕ) (pieces : List Piece) (piece : Piece) → end_of place (pieces ++ piece ∷ []) ≡ end_of place pieces + length piece.bytes
+end_of-push : (place : ℕ) (pieces : List Piece) (piece : Piece) → place_after place (pieces ++ piece ∷ []) ≡ place_after place pieces + length piece.bytes
 end_of-push place [] piece = refl
 end_of-push place (first ∷ pieces) piece = end_of-push (place + length first.bytes) pieces piece
 
-tokens_of-push : (place : ℕ) (pieces : List Piece) (piece : Piece) → tokens_of place (pieces ++ piece ∷ []) ≡ tokens_of place pieces ++ token_of (end_of place pieces) (end_of place pieces + length piece.bytes) piece.kind
+tokens_of-push : (place : ℕ) (pieces : List Piece) (piece : Piece) → tokens_of place (pieces ++ piece ∷ []) ≡ tokens_of place pieces ++ token_of (place_after place pieces) (place_after place pieces + length piece.bytes) piece.kind
 tokens_of-push place [] piece = append-nil (token_of place (place + length piece.bytes) piece.kind)
 tokens_of-push place (first ∷ pieces) piece =
     let end : ℕ = place + length first.bytes in
     let first_tokens : List Token = token_of place end first.kind in
-    let last_tokens : List Token = token_of (end_of end pieces) (end_of end pieces + length piece.bytes) piece.kind in
+    let last_tokens : List Token = token_of (place_after end pieces) (place_after end pieces + length piece.bytes) piece.kind in
     ap (λ ts. first_tokens ++ ts) (tokens_of-push end pieces piece)
     ∙ sym (append_assoc first_tokens (tokens_of end pieces) last_tokens)
 
@@ -68,7 +68,7 @@ HasRead-all text tokens place rest read empty = record {
   tokens_are = read.tokens_are;
 }
 
-pub HasRead-fault : (text : List ℕ) (tokens : List Token) (place : ℕ) (rest : List ℕ) (fault : KernFault) → HasRead text tokens place rest → IsFaultAt fault place rest → HasFirstFault text fault
+pub HasRead-fault : (text : List ℕ) (tokens : List Token) (place : ℕ) (rest : List ℕ) (fault : KernFault) → HasRead text tokens place rest → IsFaultAt fault place rest → HasFirstTokenFault text fault
 HasRead-fault text tokens place rest fault read at = record {
   pieces = read.pieces;
   rest = rest;

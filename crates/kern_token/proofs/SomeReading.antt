@@ -17,7 +17,7 @@ use Rattle.kern_token.specs.declared.token.TokenKind.TheVariants as kinds
 use Rattle.kern_token.specs.declared.token.Word.{Word}
 use Rattle.kern_token.specs.declared.token.Symbol.{Symbol}
 use Rattle.kern_token.specs.Pieces.{Piece, Begins, IsScale, IsNameLike, IsToken, is_blank, is_name_start, is_name_byte}
-use Rattle.kern_token.specs.Reading.{IsInLimit, Splits, end_of, tokens_of, BeginsBadly, BeginsTooLarge, Reads}
+use Rattle.kern_token.specs.Reading.{IsInLimit, Splits, place_after, tokens_of, BeginsBadly, BeginsTooLarge, Reads}
 use Rattle.kern_token.specs.Spelling.{word_text, symbol_text}
 use Rattle.kern_token.specs.Stopping.{StopsBefore}
 use Rattle.kern_token.proofs.FirstBytes.{class_of, symbol_size, IsPiece-nonempty}
@@ -225,7 +225,7 @@ some_reading text =
     ⊎_elim
     (λ (end : has.rest ≡ []). (Ok (tokens_of 0 has.pieces), record { pieces = has.pieces; whole = subst (Splits text has.pieces) end has.before; tokens_are = refl }))
     (λ (faulty : IsFaulty has.rest). ⊎_elim
-    (λ (bad : BeginsBadly has.rest). (Err (faults.BadByte (end_of 0 has.pieces)), record { pieces = has.pieces; rest = has.rest; before = has.before; fault_is = (refl, bad) }))
-    (λ (large : BeginsTooLarge has.rest). (Err (faults.NumberTooLarge (end_of 0 has.pieces)), record { pieces = has.pieces; rest = has.rest; before = has.before; fault_is = (refl, large) }))
+    (λ (bad : BeginsBadly has.rest). (Err (faults.BadByte (place_after 0 has.pieces)), record { pieces = has.pieces; rest = has.rest; before = has.before; fault_is = (refl, bad) }))
+    (λ (large : BeginsTooLarge has.rest). (Err (faults.NumberTooLarge (place_after 0 has.pieces)), record { pieces = has.pieces; rest = has.rest; before = has.before; fault_is = (refl, large) }))
     faulty)
     has.stop

@@ -4,6 +4,7 @@ use Rattle.std.specs.Char.{is_ascii_alphabetic, is_ascii_digit}
 use Rattle.std.specs.Fmt.{decimal}
 use Rattle.std.specs.List.{AllByRecursion}
 use Rattle.std.specs.Str.Parse.{IsNumeral, digits_value}
+use Rattle.kern_token.specs.declared.limits.TheConstants.{MOST_SCALE}
 use Rattle.kern_token.specs.declared.token.TokenKind.{TokenKind}
 use Rattle.kern_token.specs.declared.token.TokenKind.TheVariants as kinds
 use Rattle.kern_token.specs.declared.token.Word.{Word}
@@ -28,7 +29,7 @@ IsSeparator (b ∷ bytes) = (IsTrue (is_blank b) × (bytes ≡ [])) ⊎ ((b ≡ 
 
 -- `S` and the scale in decimal, without leading zeros
 pub record IsScale (scale : ℕ) (bytes : List ℕ) : Type 0 where
-  pub limit : scale ≤ 62
+  pub limit : scale ≤ MOST_SCALE
   pub spelled : bytes ≡ 83 ∷ decimal scale
 
 -- a letter or `_`, and then letters, digits and `_`

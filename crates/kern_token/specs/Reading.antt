@@ -22,9 +22,9 @@ Splits text [] rest = text ≡ rest
 Splits text (piece ∷ pieces) rest = (after : List ℕ) × Begins text piece after × IfSome piece.kind IsInLimit × Splits after pieces rest
 
 -- the place after the pieces that begin at this place
-abbrev pub end_of : ℕ → List Piece → ℕ
-end_of place [] = place
-end_of place (piece ∷ pieces) = end_of (place + length piece.bytes) pieces
+abbrev pub place_after : ℕ → List Piece → ℕ
+place_after place [] = place
+place_after place (piece ∷ pieces) = place_after (place + length piece.bytes) pieces
 
 -- the token that is a piece from place to end, if it is one
 abbrev pub token_of : ℕ → ℕ → Option TokenKind → List Token
@@ -65,16 +65,16 @@ IsFaultAt (faults.TooManyNodes at) place text = ⊥
 IsFaultAt faults.Memory place text = ⊥
 
 -- the fault stands after pieces that have none
-pub record HasFirstFault (text : List ℕ) (fault : KernFault) : Type 0 where
+pub record HasFirstTokenFault (text : List ℕ) (fault : KernFault) : Type 0 where
   pub pieces : List Piece
   pub rest : List ℕ
   pub before : Splits text pieces rest
-  pub fault_is : IsFaultAt fault (end_of 0 pieces) rest
+  pub fault_is : IsFaultAt fault (place_after 0 pieces) rest
 
 -- what reading the text answers
 abbrev pub Reads : List ℕ → Result (List Token) KernFault → Type 0
 Reads text (Ok tokens) = Spells text tokens
-Reads text (Err fault) = HasFirstFault text fault
+Reads text (Err fault) = HasFirstTokenFault text fault
 
 -- the text from the token's place to its end is a token of its kind
 pub record StandsIn (text : List ℕ) (token : Token) : Type 0 where

@@ -1,7 +1,8 @@
 ghost use Rattle.std.specs.Prelude.{◌≡◌, ℕ, ◌<◌, ◌≤◌, ◌⊎◌, List, length, ◌++◌, Result, Ok, Err, IfOk, IfErr, OnOk};
-ghost use Rattle.kern_token.specs.Reading.{Spells, token_of, HasFirstFault, Reads, GivesUnlessMemory};
+ghost use Rattle.kern_token.specs.Reading.{Spells, token_of, HasFirstTokenFault, Reads, GivesUnlessMemory};
 ghost use Rattle.kern_token.specs.declared.fault.KernFault.{KernFault};
 ghost use Rattle.kern_token.specs.declared.fault.KernFault.TheVariants.{Memory};
+ghost use Rattle.kern_token.specs.declared.limits.TheConstants.{MOST_TEXT};
 ghost use Rattle.kern_token.specs.declared.token.Token.{Token};
 
 use crate::front::{Front, front_of};
@@ -11,9 +12,9 @@ use std::alloc::{AllocError, Global};
 /// The tokens that a kernel text spells. Where it spells none the answer is its first fault, which
 /// is `BadByte` or `NumberTooLarge`.
 pub fn tokens(alloc: Global, text: &[u8]) -> Result<Vec<Token>, KernFault>
-    requires { length text.now ≤ 65536 }
+    requires { length text.now ≤ MOST_TEXT }
     ensures ok { IfOk result (λ found. Spells text.now found.items) }
-    ensures err { IfErr result (λ fault. (fault ≡ Memory) ⊎ HasFirstFault text.now fault) }
+    ensures err { IfErr result (λ fault. (fault ≡ Memory) ⊎ HasFirstTokenFault text.now fault) }
     // Each answer comes wherever it is the text's reading, but for want of memory.
     ensures exact { (reading : Result (List Token) KernFault) → Reads text.now reading
         → GivesUnlessMemory (λ found. found.items) result reading }
@@ -48,6 +49,3 @@ fn push_token(
         None => Ok(()),
     }
 }
-
-#[cfg(test)]
-mod tests;

@@ -2,6 +2,7 @@ ghost use Rattle.std.specs.Prelude.{◌≡◌, ◌≢◌, ℕ, ◌≤◌, [], �
 ghost use Rattle.std.specs.Fmt.{decimal};
 ghost use Rattle.kern_token.specs.Pieces.{IsScale};
 ghost use Rattle.kern_token.specs.Spelling.{word_text, symbol_text};
+ghost use Rattle.kern_token.specs.declared.limits.TheConstants.{MOST_SCALE};
 ghost use Rattle.kern_token.specs.declared.token.Symbol.{Symbol};
 ghost use Rattle.kern_token.specs.declared.token.Word.{Word};
 
@@ -32,11 +33,11 @@ pub(crate) fn word_of(text: &[u8]) -> Option<Word>
     Some(word)
 }
 
-// The number below 63 that the digits are the decimal form of.
+// The scale that the digits are the decimal form of.
 #[tactic(auto, using(crate::proofs::Decimals::decimal_lengths))]
 fn short_decimal(digits: &[u8]) -> Option<u32>
-    ensures { MatchOption result ((n : ℕ) → n ≤ 62 → digits.now ≢ decimal n)
-        (λ n. (n ≤ 62) × (digits.now ≡ decimal n)) }
+    ensures { MatchOption result ((n : ℕ) → n ≤ MOST_SCALE → digits.now ≢ decimal n)
+        (λ n. (n ≤ MOST_SCALE) × (digits.now ≡ decimal n)) }
 {
     match *digits {
         [ones] => one_digit(ones),
@@ -47,8 +48,8 @@ fn short_decimal(digits: &[u8]) -> Option<u32>
 
 #[tactic(auto, using(crate::proofs::Decimals::one_digit_from_decimal, crate::proofs::Decimals::decimal_of_one))]
 fn one_digit(ones: u8) -> Option<u32>
-    ensures { MatchOption result ((n : ℕ) → n ≤ 62 → ones ∷ [] ≢ decimal n)
-        (λ n. (n ≤ 62) × (ones ∷ [] ≡ decimal n)) }
+    ensures { MatchOption result ((n : ℕ) → n ≤ MOST_SCALE → ones ∷ [] ≢ decimal n)
+        (λ n. (n ≤ MOST_SCALE) × (ones ∷ [] ≡ decimal n)) }
 {
     match ones {
         b'0'..=b'9' => Some(u32::from(ones - b'0')),
@@ -58,8 +59,8 @@ fn one_digit(ones: u8) -> Option<u32>
 
 #[tactic(auto, using(crate::proofs::Decimals::two_digits_from_decimal, crate::proofs::Decimals::decimal_of_two))]
 fn two_digits(tens: u8, ones: u8) -> Option<u32>
-    ensures { MatchOption result ((n : ℕ) → n ≤ 62 → tens ∷ ones ∷ [] ≢ decimal n)
-        (λ n. (n ≤ 62) × (tens ∷ ones ∷ [] ≡ decimal n)) }
+    ensures { MatchOption result ((n : ℕ) → n ≤ MOST_SCALE → tens ∷ ones ∷ [] ≢ decimal n)
+        (λ n. (n ≤ MOST_SCALE) × (tens ∷ ones ∷ [] ≡ decimal n)) }
 {
     match (tens, ones) {
         (b'1'..=b'5', b'0'..=b'9') | (b'6', b'0'..=b'2') => {

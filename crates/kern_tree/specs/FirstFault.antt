@@ -7,6 +7,7 @@ use Rattle.kern_token.specs.declared.token.Token.{Token}
 use Rattle.kern_token.specs.declared.token.TokenKind.{TokenKind}
 use Rattle.kern_token.specs.declared.token.TokenKind.TheVariants as kinds
 use Rattle.kern_tree.specs.declared.kernel.Kernel.{Kernel}
+use Rattle.kern_tree.specs.declared.limits.TheConstants.{MOST_NODES, MOST_OPEN}
 use Rattle.kern_tree.specs.Grammar.{SpellsKernel}
 use Rattle.kern_tree.specs.Nodes.{kernel_nodes}
 
@@ -27,7 +28,7 @@ abbrev pub open_brackets : List Token → ℕ
 open_brackets tokens = fold (λ open_before token. brackets_after open_before token.kind) 0 tokens
 
 abbrev pub IsShallow : List Token → Type 0
-IsShallow tokens = (n : ℕ) → open_brackets (take n tokens) ≤ 32
+IsShallow tokens = (n : ℕ) → open_brackets (take n tokens) ≤ MOST_OPEN
 
 -- the end of the last token
 abbrev pub end_of : List Token → ℕ
@@ -47,28 +48,28 @@ pub record RunOut (tokens : List Token) : Type 0 where
   pub so_far : CanGoOn tokens
   pub not_whole : (kernel : Kernel) → SpellsKernel tokens kernel → ⊥
 
--- this token is the first that makes 33 open brackets
+-- this token is the first that makes one open bracket too many
 pub record IsTooDeep (tokens : List Token) (token : Token) : Type 0 where
   pub before : List Token
   pub after : List Token
   pub stands : tokens ≡ before ++ token ∷ after
   pub shallow : IsShallow before
-  pub deep : open_brackets (before ++ token ∷ []) ≡ 33
+  pub deep : open_brackets (before ++ token ∷ []) ≡ MOST_OPEN + 1
 
 -- the tokens to this one can go on to a kernel, and whatever the kernel, its 513th node stands here
-pub record IsNode513 (tokens : List Token) (token : Token) : Type 0 where
+pub record IsTooManyNodes (tokens : List Token) (token : Token) : Type 0 where
   pub before : List Token
   pub after : List Token
   pub stands : tokens ≡ before ++ token ∷ after
   pub so_far : CanGoOn (before ++ token ∷ [])
   pub node : (later : List Token) (kernel : Kernel) → SpellsKernel (before ++ token ∷ later) kernel
-      → slice_get (kernel_nodes kernel) 512 ≡ Some token.place
+      → slice_get (kernel_nodes kernel) MOST_NODES ≡ Some token.place
 
 -- the tokens have this fault, maybe after another
 abbrev pub HasFault : List Token → KernFault → Type 0
 HasFault tokens (faults.Unexpected place) = ((token : Token) × (place ≡ token.place) × StopsAt tokens token) ⊎ ((place ≡ end_of tokens) × RunOut tokens)
 HasFault tokens (faults.TooDeep place) = (token : Token) × (place ≡ token.place) × IsTooDeep tokens token
-HasFault tokens (faults.TooManyNodes place) = (token : Token) × (place ≡ token.place) × IsNode513 tokens token
+HasFault tokens (faults.TooManyNodes place) = (token : Token) × (place ≡ token.place) × IsTooManyNodes tokens token
 HasFault tokens (faults.BadByte place) = ⊥
 HasFault tokens (faults.NumberTooLarge place) = ⊥
 HasFault tokens faults.Memory = ⊥
@@ -98,11 +99,11 @@ pub record HasFirstFault (tokens : List Token) (fault : KernFault) : Type 0 wher
   pub is_fault : HasFault tokens fault
   pub first : (other : KernFault) → HasFault tokens other → IsNoLater fault other
 
--- the tokens spell this kernel, with at most 32 open brackets and 512 nodes
+-- the tokens spell this kernel, within the limits of open brackets and nodes
 pub record IsKernelOf (tokens : List Token) (kernel : Kernel) : Type 0 where
   pub spelled : SpellsKernel tokens kernel
   pub shallow : IsShallow tokens
-  pub few : length (kernel_nodes kernel) ≤ 512
+  pub few : length (kernel_nodes kernel) ≤ MOST_NODES
 
 -- what parsing the tokens answers
 abbrev pub Parses : List Token → Result Kernel KernFault → Type 0

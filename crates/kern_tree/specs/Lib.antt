@@ -1,5 +1,6 @@
 pub mod FirstFault
 pub mod Grammar
-pub mod Laws
 pub mod Nodes
+pub mod OneAnswer
+pub mod Parsed
 pub mod Rules

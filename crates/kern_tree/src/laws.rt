@@ -1,4 +1,4 @@
-ghost use Rattle.kern_tree.specs.Laws.{OneTree, OneAnswer};
+ghost use Rattle.kern_tree.specs.OneAnswer.{OneTree, OneAnswer};
 
 /// Tokens spell at most one kernel.
 pub fn one_tree()

@@ -5,12 +5,11 @@
 mod expr;
 mod kernel;
 mod laws;
+mod limits;
 mod stmt;
 
 pub use expr::{Expr, Form, Op1, Op2, Op3};
 pub use kernel::{Combine, Decl, DeclKind, Kernel, Kind};
 pub use laws::{one_answer, one_tree};
+pub use limits::{MOST_NODES, MOST_OPEN};
 pub use stmt::{Act, Stmt};
-
-#[cfg(test)]
-mod tests;

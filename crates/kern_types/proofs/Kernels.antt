@@ -5,7 +5,7 @@ use Rattle.kern_types.specs.declared.fault.TypeFault.{TypeFault}
 use Rattle.kern_types.specs.declared.scope.Scope.{Scope}
 use Rattle.kern_types.specs.Declarations.{all_decls_check}
 use Rattle.kern_types.specs.Statements.{stmts_after}
-use Rattle.kern_types.specs.Laws.{SomeTyping, OneTyping, OneTypeFault}
+use Rattle.kern_types.specs.OneTyping.{SomeTyping, OneTyping, OneTypeFault}
 use Rattle.kern_types.specs.Steps.{OrFault, ◌>>◌}
 use Rattle.kern_types.specs.WellTyped.{HasFirstTypeFault, WellTyped, at_start, kernel_after}
 

@@ -1,7 +1,7 @@
 -- The empty text gives the empty kernel.
 use Rattle.std.proofs.Common.{ℕ, zero, suc, ◌≤◌, [], take, refl, arith}
 use Rattle.kern_tree.specs.FirstFault.{open_brackets}
-use Rattle.kern_types.specs.WellTyped.{IsParsed}
+use Rattle.kern_tree.specs.Parsed.{IsParsed}
 
 none_open : (n : ℕ) → open_brackets (take n []) ≤ 32
 none_open zero = omega arith

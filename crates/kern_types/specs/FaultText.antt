@@ -5,11 +5,11 @@ use Rattle.kern_types.specs.declared.fault.TypeFault.{TypeFault}
 use Rattle.kern_types.specs.declared.fault.TypeFault.TheVariants as faults
 
 -- the fault's name and its place
-abbrev pub fault_text : TypeFault → List ℕ
-fault_text (faults.Unknown place) = codes "Unknown at " ++ decimal place
-fault_text (faults.Twice place) = codes "Twice at " ++ decimal place
-fault_text (faults.Kind place) = codes "Kind at " ++ decimal place
-fault_text (faults.Scale place) = codes "Scale at " ++ decimal place
-fault_text (faults.Unassigned place) = codes "Unassigned at " ++ decimal place
-fault_text (faults.NoAcc place) = codes "NoAcc at " ++ decimal place
-fault_text faults.Memory = codes "out of memory"
+abbrev pub type_fault_text : TypeFault → List ℕ
+type_fault_text (faults.Unknown place) = codes "Unknown at " ++ decimal place
+type_fault_text (faults.Twice place) = codes "Twice at " ++ decimal place
+type_fault_text (faults.Kind place) = codes "Kind at " ++ decimal place
+type_fault_text (faults.Scale place) = codes "Scale at " ++ decimal place
+type_fault_text (faults.Unassigned place) = codes "Unassigned at " ++ decimal place
+type_fault_text (faults.NoAcc place) = codes "NoAcc at " ++ decimal place
+type_fault_text faults.Memory = codes "out of memory"

@@ -1,6 +1,7 @@
 -- The types of expressions, by their forms: the type of a node whose operands have these types, or
 -- its fault. Kind comes before Scale.
 use Rattle.std.specs.Prelude.{ℕ, ◌+◌, ◌-◌, ◌/◌, ◌%◌, Bool, ◌&&◌, ◌==◌, nat_le, Ok, Err}
+use Rattle.kern_token.specs.declared.limits.TheConstants.{MOST_SCALE}
 use Rattle.kern_tree.specs.declared.expr.Op1.{Op1}
 use Rattle.kern_tree.specs.declared.expr.Op1.TheVariants as op1s
 use Rattle.kern_tree.specs.declared.expr.Op2.{Op2}
@@ -60,7 +61,7 @@ module _ (place : ℕ) where
 
   -- a * b
   abbrev pub product_type : ExprType → ExprType → OrFault ExprType
-  product_type (Scaled a s) (Scaled b t) = scaled_if (nat_le (s + t) 62) (Scaled (product_kind a b) (s + t))
+  product_type (Scaled a s) (Scaled b t) = scaled_if (nat_le (s + t) MOST_SCALE) (Scaled (product_kind a b) (s + t))
   product_type _ _ = kind_fault
 
   -- a / b
@@ -86,7 +87,7 @@ module _ (place : ℕ) where
   -- muldiv(a, b, c)
   abbrev pub muldiv_type : ExprType → ExprType → ExprType → OrFault ExprType
   muldiv_type (Scaled kinds.Num s) (Scaled kind t) (Scaled kinds.Num u) =
-      scaled_if (nat_le u (s + t) && nat_le (s + t) (u + 62)) (Scaled kind (s + t - u))
+      scaled_if (nat_le u (s + t) && nat_le (s + t) (u + MOST_SCALE)) (Scaled kind (s + t - u))
   muldiv_type _ _ _ = kind_fault
 
   -- vec(a, b, c)
@@ -96,7 +97,7 @@ module _ (place : ℕ) where
 
   -- to(k, a)
   abbrev pub to_type : ℕ → ExprType → OrFault ExprType
-  to_type k (Scaled kind scale) = scaled_if (nat_le k 62) (Scaled kind k)
+  to_type k (Scaled kind scale) = scaled_if (nat_le k MOST_SCALE) (Scaled kind k)
   to_type k Condition = kind_fault
 
   -- a.x, a.y, a.z

@@ -2,9 +2,9 @@ pub mod Declarations
 pub mod FaultText
 pub mod Fields
 pub mod Forms
-pub mod Laws
 pub mod NameLists
 pub mod Names
+pub mod OneTyping
 pub mod Statements
 pub mod Steps
 pub mod WellTyped

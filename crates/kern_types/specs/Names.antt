@@ -25,8 +25,8 @@ declaration decls name = find (λ decl. bytes_eq decl.name name) decls
 
 -- The earliest assignment to a name among these. Where the text before has no fault, every other one
 -- gives the same kind and scale.
-abbrev pub assignment : List Variable → List ℕ → Option Variable
-assignment earlier name = find (λ variable. bytes_eq variable.name name) earlier
+abbrev pub earlier_assignment : List Variable → List ℕ → Option Variable
+earlier_assignment earlier name = find (λ variable. bytes_eq variable.name name) earlier
 
 -- what a declared name is in an expression
 abbrev pub declared_type : ℕ → DeclKind → OrFault ExprType
@@ -56,7 +56,7 @@ at_place expr = expr.form expr.place
 -- At a place of the text with these declarations and this scope.
 module _ (decls : List Decl) (scope : Scope) where
   abbrev pub name_type : ℕ → List ℕ → OrFault ExprType
-  name_type place name = named_type place (declaration decls name) (undeclared_type place (assignment scope.earlier name) (is_among scope.certain name))
+  name_type place name = named_type place (declaration decls name) (undeclared_type place (earlier_assignment scope.earlier name) (is_among scope.certain name))
 
   -- of a form whose node stands at this place, by its operands from the left
   abbrev pub form_typing : Form-F (ℕ → OrFault ExprType) (OrFault ExprType) → ℕ → OrFault ExprType

@@ -18,7 +18,7 @@ use Rattle.kern_types.specs.declared.scope.Scope.{Scope}
 use Rattle.kern_types.specs.declared.scope.Variable.{Variable}
 use Rattle.kern_types.specs.Declarations.{same_kind}
 use Rattle.kern_types.specs.NameLists.{common}
-use Rattle.kern_types.specs.Names.{declaration, assignment, type_of}
+use Rattle.kern_types.specs.Names.{declaration, earlier_assignment, type_of}
 use Rattle.kern_types.specs.Steps.{OrFault, ◌>>=◌, ◌>>◌, Check, pass, unless}
 
 -- what is assigned to has no declaration
@@ -90,7 +90,7 @@ module _ (decls : List Decl) where
   abbrev pub set_check : ℕ → List ℕ → Kind → ℕ → Scope → Check
   set_check place name kind scale scope = do
     target_check place (what_declares (declaration decls name))
-    again_check place kind scale (assignment scope.earlier name)
+    again_check place kind scale (earlier_assignment scope.earlier name)
 
   -- after an assignment of a value of this type
   abbrev pub set_after : ℕ → List ℕ → ExprType → After
@@ -101,7 +101,7 @@ module _ (decls : List Decl) where
 
   -- a contribution of a value of this type
   abbrev pub give_check : ℕ → List ℕ → Scope → ExprType → Check
-  give_check place name scope type = given_check place (what_declares (declaration decls name)) (assignment scope.earlier name) type
+  give_check place name scope type = given_check place (what_declares (declaration decls name)) (earlier_assignment scope.earlier name) type
 
   -- name = value;
   abbrev pub assignment_after : ℕ → List ℕ → Expr → After

@@ -1,22 +1,13 @@
 -- Kernels that are well typed, and the first fault of those that aren't.
 use Rattle.std.specs.Prelude.{◌≡◌, ℕ, List, [], Ok, Err}
-use Rattle.kern_token.specs.declared.token.Token.{Token}
-use Rattle.kern_token.specs.Reading.{Spells}
 use Rattle.kern_tree.specs.declared.kernel.Kernel.{Kernel}
-use Rattle.kern_tree.specs.FirstFault.{Parses}
+use Rattle.kern_tree.specs.Parsed.{IsParsed}
 use Rattle.kern_types.specs.declared.fault.TypeFault.{TypeFault}
 use Rattle.kern_types.specs.declared.scope.Scope.{Scope}
 use Rattle.kern_types.specs.declared.force_var.ForceVar.{ForceVar}
 use Rattle.kern_types.specs.Declarations.{all_decls_check, forces_of}
 use Rattle.kern_types.specs.Statements.{stmts_after, slots_in}
 use Rattle.kern_types.specs.Steps.{OrFault, ◌>>◌}
-
--- the kernel is one that parsing a text gives
-pub record IsParsed (kernel : Kernel) : Type 0 where
-  pub text : List ℕ
-  pub tokens : List Token
-  pub spelled : Spells text tokens
-  pub parsed : Parses tokens (Ok kernel)
 
 -- nothing is assigned at the start
 abbrev pub at_start : Scope

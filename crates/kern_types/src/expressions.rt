@@ -57,7 +57,7 @@ fn declared_type(place: u32, what: &DeclKind) -> Result<ExprType, TypeFault>
 
 fn assigned_type(scope: &Scope, place: u32, name: &Name) -> Result<ExprType, TypeFault>
     ensures { result ≡ meanings.undeclared_type place
-        (meanings.assignment scope.now.earlier name.now)
+        (meanings.earlier_assignment scope.now.earlier name.now)
         (is_among scope.now.certain name.now) }
 {
     match scope.assignment(name) {

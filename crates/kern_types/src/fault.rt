@@ -25,9 +25,9 @@ pub enum TypeFault {
 
 impl fmt::Display for TypeFault {
     ghost use Rattle.std.specs.Prelude.{Some};
-    ghost use Rattle.kern_types.specs.FaultText.{fault_text};
+    ghost use Rattle.kern_types.specs.FaultText.{type_fault_text};
 
-    ghost output = { λ fault. Some (fault_text fault) };
+    ghost output = { λ fault. Some (type_fault_text fault) };
 
     fn fmt<W: fmt::Write>(&self, f: &mut fmt::Formatter<W>) -> fmt::Result {
         match self {

@@ -3,11 +3,9 @@ ghost use Rattle.kern_types.specs.Forms as rules;
 
 use crate::ExprType::{self, Condition, Scaled};
 use crate::TypeFault;
+use kern_token::MOST_SCALE;
 use kern_tree::Kind::{self, Num, Vec3};
 use kern_tree::{Op1, Op2, Op3};
-
-// The greatest number of fraction bits.
-const MOST: u32 = 62;
 
 pub(crate) fn one_type(place: u32, op: Op1, a: ExprType) -> Result<ExprType, TypeFault>
     ensures { result ≡ rules.one_type place op a }
@@ -52,7 +50,7 @@ pub(crate) fn to_type(place: u32, scale: u32, a: ExprType) -> Result<ExprType, T
     ensures { result ≡ rules.to_type place scale a }
 {
     match a {
-        Scaled(kind, _) => scaled_if(place, scale <= MOST, Scaled(kind, scale)),
+        Scaled(kind, _) => scaled_if(place, scale <= MOST_SCALE, Scaled(kind, scale)),
         Condition => Err(TypeFault::Kind(place)),
     }
 }
@@ -130,7 +128,7 @@ fn product_type(place: u32, a: ExprType, b: ExprType) -> Result<ExprType, TypeFa
         (Scaled(left, s), Scaled(right, t)) => match s.checked_add(t) {
             Some(scale) => scaled_if(
                 place,
-                scale <= MOST,
+                scale <= MOST_SCALE,
                 Scaled(product_kind(left, right), scale),
             ),
             None => Err(TypeFault::Scale(place)),
@@ -195,7 +193,7 @@ fn muldiv_type(place: u32, a: ExprType, b: ExprType, c: ExprType) -> Result<Expr
         (Scaled(Num, s), Scaled(kind, t), Scaled(Num, u)) => {
             let scale = i64::from(s) + i64::from(t) - i64::from(u);
             match u32::try_from(scale) {
-                Ok(scale) => scaled_if(place, scale <= MOST, Scaled(kind, scale)),
+                Ok(scale) => scaled_if(place, scale <= MOST_SCALE, Scaled(kind, scale)),
                 Err(_) => Err(TypeFault::Scale(place)),
             }
         }

@@ -1,4 +1,4 @@
-ghost use Rattle.kern_types.specs.Laws.{SomeTyping, OneTyping, OneTypeFault};
+ghost use Rattle.kern_types.specs.OneTyping.{SomeTyping, OneTyping, OneTypeFault};
 
 /// A kernel is well typed, or has a first fault, and not both.
 pub fn one_typing()

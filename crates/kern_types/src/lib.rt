@@ -21,6 +21,3 @@ pub use fault::TypeFault;
 pub use force_var::ForceVar;
 pub use laws::one_typing;
 pub use typed::{Typed, check, forces, kernel, slots};
-
-#[cfg(test)]
-mod tests;

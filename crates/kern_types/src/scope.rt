@@ -1,7 +1,7 @@
 ghost use Rattle.std.specs.Prelude.{◌≡◌, OnOk, IfOk};
 ghost use Rattle.std.specs.Option.{option_copied};
 ghost use Rattle.kern_types.specs.NameLists.{common};
-ghost use Rattle.kern_types.specs.Names.{assignment as assignment_to};
+ghost use Rattle.kern_types.specs.Names.{earlier_assignment};
 ghost use Rattle.kern_types.specs.Statements.{with_assigned};
 
 use crate::names::Names;
@@ -31,7 +31,7 @@ pub(crate) struct Scope {
 impl Scope {
     /// The earliest assignment to the name.
     pub(crate) fn assignment(&self, name: &Name) -> Option<&Variable>
-        ensures { option_copied result ≡ assignment_to self.now.earlier name.now }
+        ensures { option_copied result ≡ earlier_assignment self.now.earlier name.now }
     {
         self.earlier
             .as_slice()

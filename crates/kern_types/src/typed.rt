@@ -1,5 +1,6 @@
 ghost use Rattle.std.specs.Prelude.{◌≡◌, ◌⊎◌, IfOk, IfErr, OnOk};
-ghost use Rattle.kern_types.specs.WellTyped.{IsParsed, WellTyped, HasFirstTypeFault};
+ghost use Rattle.kern_tree.specs.Parsed.{IsParsed};
+ghost use Rattle.kern_types.specs.WellTyped.{WellTyped, HasFirstTypeFault};
 ghost use Rattle.kern_types.specs.Declarations as rules;
 ghost use Rattle.kern_types.specs.Statements.{slots_in};
 ghost use Rattle.kern_types.specs.declared.fault.TypeFault.TheVariants.{Memory};

@@ -4,8 +4,8 @@ use Rattle.std.proofs.lemmas.Result.{err_from_is_err_and, MatchResult-weaker}
 use Rattle.kern_token.specs.declared.token.Symbol.TheVariants as symbols
 use Rattle.kern_token.specs.declared.token.TokenKind.TheVariants as kinds
 use Rattle.kern_parse.specs.declared.operators.Level.TheVariants as levels
-use Rattle.kern_parse.specs.Operators.{binary_of, relation_of, prefix_of}
-use Rattle.kern_parse.specs.Reading.{next_kind}
+use Rattle.kern_parse.specs.inner.Operators.{binary_of, relation_of, prefix_of}
+use Rattle.kern_parse.specs.inner.Reading.{next_kind}
 use Rattle.kern_parse.specs.Required.{Part, operand}
 use Rattle.kern_parse.proofs.Expanding.{chain_expands, rel_expands, post_expands}
 use Rattle.kern_parse.proofs.Expressions.{made, bracketed_read, one_read, two_read, three_read, to_read, call_leads, call_read, call_done, call_full, bracket_done, no_call_refuses, binary_full, relation_full, prefix_full, component_full, joins_first, joins_leads, joins_more, joins_all, rel_leads, rel_leads_on, rel_alone, rel_both, stands_for_post, unary_plain, unary_leads, unary_prefixed, picks_first, picks_leads, picks_more, picks_all}
@@ -13,117 +13,117 @@ use Rattle.kern_parse.proofs.Following.{leads_then, leads_first, fault_first, fa
 use Rattle.kern_parse.proofs.Steps.{refuses}
 use Rattle.kern_parse.proofs.reader.Reader.+expression.Goals as goal
 
-pub bracketed-returns-in_err-open : goal.bracketed-returns-in_err-open
-bracketed-returns-in_err-open t c =
+pub bracketed-returns-in_err-open_bracket : goal.bracketed-returns-in_err-open_bracket
+bracketed-returns-in_err-open_bracket t c =
     let fault = err_from_is_err_and c.from_residual.result c.from_residual.ensures.1 in
-    rw (fault.1, fault.2) (fault_first (Part.Exactly symbols.OpenRound) _ (inr c.in_err-open.ensures.err))
+    rw (fault.1, fault.2) (fault_first (Part.Exactly symbols.OpenRound) _ (inr c.in_err-open_bracket.ensures.err))
 
 pub bracketed-returns-in_err-inner : goal.bracketed-returns-in_err-inner
 bracketed-returns-in_err-inner t c =
     let fault = err_from_is_err_and c.from_residual-in_err-inner.result c.from_residual-in_err-inner.ensures.1 in
-    rw (fault.1, fault.2) (fault_then (leads_first (Part.Exactly symbols.OpenRound) _ c.in_ok-open.ensures.ok.leads) (fault_first (Part.Chain levels.Or) _ (c.in_err-inner.ensures)))
+    rw (fault.1, fault.2) (fault_then (leads_first (Part.Exactly symbols.OpenRound) _ c.in_ok-open_bracket.ensures.ok.leads) (fault_first (Part.Chain levels.Or) _ (c.in_err-inner.ensures)))
 
-pub bracketed-returns-in_err-close : goal.bracketed-returns-in_err-close
-bracketed-returns-in_err-close t c =
-    let fault = err_from_is_err_and c.from_residual-in_err-close.result c.from_residual-in_err-close.ensures.1 in
-    rw (fault.1, fault.2) (fault_then (leads_then (leads_first (Part.Exactly symbols.OpenRound) _ c.in_ok-open.ensures.ok.leads) (leads_first (Part.Chain levels.Or) _ c.in_ok-inner.ensures.reads.leads)) (fault_first (Part.Exactly symbols.CloseRound) _ (inr c.in_err-close.ensures.err)))
+pub bracketed-returns-in_err-close_bracket : goal.bracketed-returns-in_err-close_bracket
+bracketed-returns-in_err-close_bracket t c =
+    let fault = err_from_is_err_and c.from_residual-in_err-close_bracket.result c.from_residual-in_err-close_bracket.ensures.1 in
+    rw (fault.1, fault.2) (fault_then (leads_then (leads_first (Part.Exactly symbols.OpenRound) _ c.in_ok-open_bracket.ensures.ok.leads) (leads_first (Part.Chain levels.Or) _ c.in_ok-inner.ensures.reads.leads)) (fault_first (Part.Exactly symbols.CloseRound) _ (inr c.in_err-close_bracket.ensures.err)))
 
 pub bracketed-returns : goal.bracketed-returns
-bracketed-returns t c = bracketed_read _ _ _ _ _ c.in_ok-open.ensures.ok c.in_ok-inner.ensures c.in_ok-close.ensures.ok
+bracketed-returns t c = bracketed_read _ _ _ _ _ c.in_ok-open_bracket.ensures.ok c.in_ok-inner.ensures c.in_ok-close_bracket.ensures.ok
 
-pub call_of_two-returns-in_err-open : goal.call_of_two-returns-in_err-open
-call_of_two-returns-in_err-open t c =
+pub call_of_two-returns-in_err-open_bracket : goal.call_of_two-returns-in_err-open_bracket
+call_of_two-returns-in_err-open_bracket t c =
     let fault = err_from_is_err_and c.from_residual.result c.from_residual.ensures.1 in
-    rw (fault.1, fault.2) (fault_first (Part.Exactly symbols.OpenRound) _ (inr c.in_err-open.ensures.err))
+    rw (fault.1, fault.2) (fault_first (Part.Exactly symbols.OpenRound) _ (inr c.in_err-open_bracket.ensures.err))
 
 pub call_of_two-returns-in_err-a : goal.call_of_two-returns-in_err-a
 call_of_two-returns-in_err-a t c =
     let fault = err_from_is_err_and c.from_residual-in_err-a.result c.from_residual-in_err-a.ensures.1 in
-    rw (fault.1, fault.2) (fault_then (leads_first (Part.Exactly symbols.OpenRound) _ c.in_ok-open.ensures.ok.leads) (fault_first (Part.Chain levels.Or) _ (c.in_err-a.ensures)))
+    rw (fault.1, fault.2) (fault_then (leads_first (Part.Exactly symbols.OpenRound) _ c.in_ok-open_bracket.ensures.ok.leads) (fault_first (Part.Chain levels.Or) _ (c.in_err-a.ensures)))
 
 pub call_of_two-returns-in_err-symbol : goal.call_of_two-returns-in_err-symbol
 call_of_two-returns-in_err-symbol t c =
     let fault = err_from_is_err_and c.from_residual-in_err-symbol.result c.from_residual-in_err-symbol.ensures.1 in
-    rw (fault.1, fault.2) (fault_then (leads_then (leads_first (Part.Exactly symbols.OpenRound) _ c.in_ok-open.ensures.ok.leads) (leads_first (Part.Chain levels.Or) _ c.in_ok-a.ensures.reads.leads)) (fault_first (Part.Exactly symbols.Comma) _ (inr c.in_err-symbol.ensures.err)))
+    rw (fault.1, fault.2) (fault_then (leads_then (leads_first (Part.Exactly symbols.OpenRound) _ c.in_ok-open_bracket.ensures.ok.leads) (leads_first (Part.Chain levels.Or) _ c.in_ok-a.ensures.reads.leads)) (fault_first (Part.Exactly symbols.Comma) _ (inr c.in_err-symbol.ensures.err)))
 
 pub call_of_two-returns-in_err-b : goal.call_of_two-returns-in_err-b
 call_of_two-returns-in_err-b t c =
     let fault = err_from_is_err_and c.from_residual-in_err-b.result c.from_residual-in_err-b.ensures.1 in
-    rw (fault.1, fault.2) (fault_then (leads_then (leads_then (leads_first (Part.Exactly symbols.OpenRound) _ c.in_ok-open.ensures.ok.leads) (leads_first (Part.Chain levels.Or) _ c.in_ok-a.ensures.reads.leads)) (leads_first (Part.Exactly symbols.Comma) _ c.in_ok-symbol.ensures.ok.leads)) (fault_first (Part.Chain levels.Or) _ (c.in_err-b.ensures)))
+    rw (fault.1, fault.2) (fault_then (leads_then (leads_then (leads_first (Part.Exactly symbols.OpenRound) _ c.in_ok-open_bracket.ensures.ok.leads) (leads_first (Part.Chain levels.Or) _ c.in_ok-a.ensures.reads.leads)) (leads_first (Part.Exactly symbols.Comma) _ c.in_ok-symbol.ensures.ok.leads)) (fault_first (Part.Chain levels.Or) _ (c.in_err-b.ensures)))
 
-pub call_of_two-returns-in_err-close : goal.call_of_two-returns-in_err-close
-call_of_two-returns-in_err-close t c =
-    let fault = err_from_is_err_and c.from_residual-in_err-close.result c.from_residual-in_err-close.ensures.1 in
-    rw (fault.1, fault.2) (fault_then (leads_then (leads_then (leads_then (leads_first (Part.Exactly symbols.OpenRound) _ c.in_ok-open.ensures.ok.leads) (leads_first (Part.Chain levels.Or) _ c.in_ok-a.ensures.reads.leads)) (leads_first (Part.Exactly symbols.Comma) _ c.in_ok-symbol.ensures.ok.leads)) (leads_first (Part.Chain levels.Or) _ c.in_ok-b.ensures.reads.leads)) (fault_first (Part.Exactly symbols.CloseRound) _ (inr c.in_err-close.ensures.err)))
+pub call_of_two-returns-in_err-close_bracket : goal.call_of_two-returns-in_err-close_bracket
+call_of_two-returns-in_err-close_bracket t c =
+    let fault = err_from_is_err_and c.from_residual-in_err-close_bracket.result c.from_residual-in_err-close_bracket.ensures.1 in
+    rw (fault.1, fault.2) (fault_then (leads_then (leads_then (leads_then (leads_first (Part.Exactly symbols.OpenRound) _ c.in_ok-open_bracket.ensures.ok.leads) (leads_first (Part.Chain levels.Or) _ c.in_ok-a.ensures.reads.leads)) (leads_first (Part.Exactly symbols.Comma) _ c.in_ok-symbol.ensures.ok.leads)) (leads_first (Part.Chain levels.Or) _ c.in_ok-b.ensures.reads.leads)) (fault_first (Part.Exactly symbols.CloseRound) _ (inr c.in_err-close_bracket.ensures.err)))
 
 pub call_of_two-returns : goal.call_of_two-returns
-call_of_two-returns t c = made _ _ c.two.result c.two.ensures (λ e is. rw is (two_read c.args.op c.args.place _ _ _ _ _ _ _ _ c.in_ok-open.ensures.ok c.in_ok-a.ensures c.in_ok-symbol.ensures.ok c.in_ok-b.ensures c.in_ok-close.ensures.ok))
+call_of_two-returns t c = made _ _ c.two.result c.two.ensures (λ e is. rw is (two_read c.args.op c.args.place _ _ _ _ _ _ _ _ c.in_ok-open_bracket.ensures.ok c.in_ok-a.ensures c.in_ok-symbol.ensures.ok c.in_ok-b.ensures c.in_ok-close_bracket.ensures.ok))
 
-pub call_of_three-returns-in_err-open : goal.call_of_three-returns-in_err-open
-call_of_three-returns-in_err-open t c =
+pub call_of_three-returns-in_err-open_bracket : goal.call_of_three-returns-in_err-open_bracket
+call_of_three-returns-in_err-open_bracket t c =
     let fault = err_from_is_err_and c.from_residual.result c.from_residual.ensures.1 in
-    rw (fault.1, fault.2) (fault_first (Part.Exactly symbols.OpenRound) _ (inr c.in_err-open.ensures.err))
+    rw (fault.1, fault.2) (fault_first (Part.Exactly symbols.OpenRound) _ (inr c.in_err-open_bracket.ensures.err))
 
 pub call_of_three-returns-in_err-a : goal.call_of_three-returns-in_err-a
 call_of_three-returns-in_err-a t c =
     let fault = err_from_is_err_and c.from_residual-in_err-a.result c.from_residual-in_err-a.ensures.1 in
-    rw (fault.1, fault.2) (fault_then (leads_first (Part.Exactly symbols.OpenRound) _ c.in_ok-open.ensures.ok.leads) (fault_first (Part.Chain levels.Or) _ (c.in_err-a.ensures)))
+    rw (fault.1, fault.2) (fault_then (leads_first (Part.Exactly symbols.OpenRound) _ c.in_ok-open_bracket.ensures.ok.leads) (fault_first (Part.Chain levels.Or) _ (c.in_err-a.ensures)))
 
 pub call_of_three-returns-in_err-symbol : goal.call_of_three-returns-in_err-symbol
 call_of_three-returns-in_err-symbol t c =
     let fault = err_from_is_err_and c.from_residual-in_err-symbol.result c.from_residual-in_err-symbol.ensures.1 in
-    rw (fault.1, fault.2) (fault_then (leads_then (leads_first (Part.Exactly symbols.OpenRound) _ c.in_ok-open.ensures.ok.leads) (leads_first (Part.Chain levels.Or) _ c.in_ok-a.ensures.reads.leads)) (fault_first (Part.Exactly symbols.Comma) _ (inr c.in_err-symbol.ensures.err)))
+    rw (fault.1, fault.2) (fault_then (leads_then (leads_first (Part.Exactly symbols.OpenRound) _ c.in_ok-open_bracket.ensures.ok.leads) (leads_first (Part.Chain levels.Or) _ c.in_ok-a.ensures.reads.leads)) (fault_first (Part.Exactly symbols.Comma) _ (inr c.in_err-symbol.ensures.err)))
 
 pub call_of_three-returns-in_err-b : goal.call_of_three-returns-in_err-b
 call_of_three-returns-in_err-b t c =
     let fault = err_from_is_err_and c.from_residual-in_err-b.result c.from_residual-in_err-b.ensures.1 in
-    rw (fault.1, fault.2) (fault_then (leads_then (leads_then (leads_first (Part.Exactly symbols.OpenRound) _ c.in_ok-open.ensures.ok.leads) (leads_first (Part.Chain levels.Or) _ c.in_ok-a.ensures.reads.leads)) (leads_first (Part.Exactly symbols.Comma) _ c.in_ok-symbol.ensures.ok.leads)) (fault_first (Part.Chain levels.Or) _ (c.in_err-b.ensures)))
+    rw (fault.1, fault.2) (fault_then (leads_then (leads_then (leads_first (Part.Exactly symbols.OpenRound) _ c.in_ok-open_bracket.ensures.ok.leads) (leads_first (Part.Chain levels.Or) _ c.in_ok-a.ensures.reads.leads)) (leads_first (Part.Exactly symbols.Comma) _ c.in_ok-symbol.ensures.ok.leads)) (fault_first (Part.Chain levels.Or) _ (c.in_err-b.ensures)))
 
 pub call_of_three-returns-in_err-symbol-2 : goal.call_of_three-returns-in_err-symbol-2
 call_of_three-returns-in_err-symbol-2 t c =
     let fault = err_from_is_err_and c.from_residual-in_err-symbol-2.result c.from_residual-in_err-symbol-2.ensures.1 in
-    rw (fault.1, fault.2) (fault_then (leads_then (leads_then (leads_then (leads_first (Part.Exactly symbols.OpenRound) _ c.in_ok-open.ensures.ok.leads) (leads_first (Part.Chain levels.Or) _ c.in_ok-a.ensures.reads.leads)) (leads_first (Part.Exactly symbols.Comma) _ c.in_ok-symbol.ensures.ok.leads)) (leads_first (Part.Chain levels.Or) _ c.in_ok-b.ensures.reads.leads)) (fault_first (Part.Exactly symbols.Comma) _ (inr c.in_err-symbol-2.ensures.err)))
+    rw (fault.1, fault.2) (fault_then (leads_then (leads_then (leads_then (leads_first (Part.Exactly symbols.OpenRound) _ c.in_ok-open_bracket.ensures.ok.leads) (leads_first (Part.Chain levels.Or) _ c.in_ok-a.ensures.reads.leads)) (leads_first (Part.Exactly symbols.Comma) _ c.in_ok-symbol.ensures.ok.leads)) (leads_first (Part.Chain levels.Or) _ c.in_ok-b.ensures.reads.leads)) (fault_first (Part.Exactly symbols.Comma) _ (inr c.in_err-symbol-2.ensures.err)))
 
 pub call_of_three-returns-in_err-c : goal.call_of_three-returns-in_err-c
 call_of_three-returns-in_err-c t c =
     let fault = err_from_is_err_and c.from_residual-in_err-c.result c.from_residual-in_err-c.ensures.1 in
-    rw (fault.1, fault.2) (fault_then (leads_then (leads_then (leads_then (leads_then (leads_first (Part.Exactly symbols.OpenRound) _ c.in_ok-open.ensures.ok.leads) (leads_first (Part.Chain levels.Or) _ c.in_ok-a.ensures.reads.leads)) (leads_first (Part.Exactly symbols.Comma) _ c.in_ok-symbol.ensures.ok.leads)) (leads_first (Part.Chain levels.Or) _ c.in_ok-b.ensures.reads.leads)) (leads_first (Part.Exactly symbols.Comma) _ c.in_ok-symbol-2.ensures.ok.leads)) (fault_first (Part.Chain levels.Or) _ (c.in_err-c.ensures)))
+    rw (fault.1, fault.2) (fault_then (leads_then (leads_then (leads_then (leads_then (leads_first (Part.Exactly symbols.OpenRound) _ c.in_ok-open_bracket.ensures.ok.leads) (leads_first (Part.Chain levels.Or) _ c.in_ok-a.ensures.reads.leads)) (leads_first (Part.Exactly symbols.Comma) _ c.in_ok-symbol.ensures.ok.leads)) (leads_first (Part.Chain levels.Or) _ c.in_ok-b.ensures.reads.leads)) (leads_first (Part.Exactly symbols.Comma) _ c.in_ok-symbol-2.ensures.ok.leads)) (fault_first (Part.Chain levels.Or) _ (c.in_err-c.ensures)))
 
-pub call_of_three-returns-in_err-close : goal.call_of_three-returns-in_err-close
-call_of_three-returns-in_err-close t c =
-    let fault = err_from_is_err_and c.from_residual-in_err-close.result c.from_residual-in_err-close.ensures.1 in
-    rw (fault.1, fault.2) (fault_then (leads_then (leads_then (leads_then (leads_then (leads_then (leads_first (Part.Exactly symbols.OpenRound) _ c.in_ok-open.ensures.ok.leads) (leads_first (Part.Chain levels.Or) _ c.in_ok-a.ensures.reads.leads)) (leads_first (Part.Exactly symbols.Comma) _ c.in_ok-symbol.ensures.ok.leads)) (leads_first (Part.Chain levels.Or) _ c.in_ok-b.ensures.reads.leads)) (leads_first (Part.Exactly symbols.Comma) _ c.in_ok-symbol-2.ensures.ok.leads)) (leads_first (Part.Chain levels.Or) _ c.in_ok-c.ensures.reads.leads)) (fault_first (Part.Exactly symbols.CloseRound) _ (inr c.in_err-close.ensures.err)))
+pub call_of_three-returns-in_err-close_bracket : goal.call_of_three-returns-in_err-close_bracket
+call_of_three-returns-in_err-close_bracket t c =
+    let fault = err_from_is_err_and c.from_residual-in_err-close_bracket.result c.from_residual-in_err-close_bracket.ensures.1 in
+    rw (fault.1, fault.2) (fault_then (leads_then (leads_then (leads_then (leads_then (leads_then (leads_first (Part.Exactly symbols.OpenRound) _ c.in_ok-open_bracket.ensures.ok.leads) (leads_first (Part.Chain levels.Or) _ c.in_ok-a.ensures.reads.leads)) (leads_first (Part.Exactly symbols.Comma) _ c.in_ok-symbol.ensures.ok.leads)) (leads_first (Part.Chain levels.Or) _ c.in_ok-b.ensures.reads.leads)) (leads_first (Part.Exactly symbols.Comma) _ c.in_ok-symbol-2.ensures.ok.leads)) (leads_first (Part.Chain levels.Or) _ c.in_ok-c.ensures.reads.leads)) (fault_first (Part.Exactly symbols.CloseRound) _ (inr c.in_err-close_bracket.ensures.err)))
 
 pub call_of_three-returns : goal.call_of_three-returns
-call_of_three-returns t c = made _ _ c.three.result c.three.ensures (λ e is. rw is (three_read c.args.op c.args.place _ _ _ _ _ _ _ _ _ _ _ c.in_ok-open.ensures.ok c.in_ok-a.ensures c.in_ok-symbol.ensures.ok c.in_ok-b.ensures c.in_ok-symbol-2.ensures.ok c.in_ok-c.ensures c.in_ok-close.ensures.ok))
+call_of_three-returns t c = made _ _ c.three.result c.three.ensures (λ e is. rw is (three_read c.args.op c.args.place _ _ _ _ _ _ _ _ _ _ _ c.in_ok-open_bracket.ensures.ok c.in_ok-a.ensures c.in_ok-symbol.ensures.ok c.in_ok-b.ensures c.in_ok-symbol-2.ensures.ok c.in_ok-c.ensures c.in_ok-close_bracket.ensures.ok))
 
-pub rescaling-returns-in_err-open : goal.rescaling-returns-in_err-open
-rescaling-returns-in_err-open t c =
+pub rescaling-returns-in_err-open_bracket : goal.rescaling-returns-in_err-open_bracket
+rescaling-returns-in_err-open_bracket t c =
     let fault = err_from_is_err_and c.from_residual.result c.from_residual.ensures.1 in
-    rw (fault.1, fault.2) (fault_first (Part.Exactly symbols.OpenRound) _ (inr c.in_err-open.ensures.err))
+    rw (fault.1, fault.2) (fault_first (Part.Exactly symbols.OpenRound) _ (inr c.in_err-open_bracket.ensures.err))
 
 pub rescaling-returns-in_err-number : goal.rescaling-returns-in_err-number
 rescaling-returns-in_err-number t c =
     let fault = err_from_is_err_and c.from_residual-in_err-number.result c.from_residual-in_err-number.ensures.1 in
-    rw (fault.1, fault.2) (fault_then (leads_first (Part.Exactly symbols.OpenRound) _ c.in_ok-open.ensures.ok.leads) (fault_first Part.Number _ (inr c.in_err-number.ensures.err)))
+    rw (fault.1, fault.2) (fault_then (leads_first (Part.Exactly symbols.OpenRound) _ c.in_ok-open_bracket.ensures.ok.leads) (fault_first Part.Number _ (inr c.in_err-number.ensures.err)))
 
 pub rescaling-returns-in_err-symbol : goal.rescaling-returns-in_err-symbol
 rescaling-returns-in_err-symbol t c =
     let fault = err_from_is_err_and c.from_residual-in_err-symbol.result c.from_residual-in_err-symbol.ensures.1 in
-    rw (fault.1, fault.2) (fault_then (leads_then (leads_first (Part.Exactly symbols.OpenRound) _ c.in_ok-open.ensures.ok.leads) (leads_first Part.Number _ c.in_ok-number.ensures.ok.leads)) (fault_first (Part.Exactly symbols.Comma) _ (inr c.in_err-symbol.ensures.err)))
+    rw (fault.1, fault.2) (fault_then (leads_then (leads_first (Part.Exactly symbols.OpenRound) _ c.in_ok-open_bracket.ensures.ok.leads) (leads_first Part.Number _ c.in_ok-number.ensures.ok.leads)) (fault_first (Part.Exactly symbols.Comma) _ (inr c.in_err-symbol.ensures.err)))
 
 pub rescaling-returns-in_err-inner : goal.rescaling-returns-in_err-inner
 rescaling-returns-in_err-inner t c =
     let fault = err_from_is_err_and c.from_residual-in_err-inner.result c.from_residual-in_err-inner.ensures.1 in
-    rw (fault.1, fault.2) (fault_then (leads_then (leads_then (leads_first (Part.Exactly symbols.OpenRound) _ c.in_ok-open.ensures.ok.leads) (leads_first Part.Number _ c.in_ok-number.ensures.ok.leads)) (leads_first (Part.Exactly symbols.Comma) _ c.in_ok-symbol.ensures.ok.leads)) (fault_first (Part.Chain levels.Or) _ (c.in_err-inner.ensures)))
+    rw (fault.1, fault.2) (fault_then (leads_then (leads_then (leads_first (Part.Exactly symbols.OpenRound) _ c.in_ok-open_bracket.ensures.ok.leads) (leads_first Part.Number _ c.in_ok-number.ensures.ok.leads)) (leads_first (Part.Exactly symbols.Comma) _ c.in_ok-symbol.ensures.ok.leads)) (fault_first (Part.Chain levels.Or) _ (c.in_err-inner.ensures)))
 
-pub rescaling-returns-in_err-close : goal.rescaling-returns-in_err-close
-rescaling-returns-in_err-close t c =
-    let fault = err_from_is_err_and c.from_residual-in_err-close.result c.from_residual-in_err-close.ensures.1 in
-    rw (fault.1, fault.2) (fault_then (leads_then (leads_then (leads_then (leads_first (Part.Exactly symbols.OpenRound) _ c.in_ok-open.ensures.ok.leads) (leads_first Part.Number _ c.in_ok-number.ensures.ok.leads)) (leads_first (Part.Exactly symbols.Comma) _ c.in_ok-symbol.ensures.ok.leads)) (leads_first (Part.Chain levels.Or) _ c.in_ok-inner.ensures.reads.leads)) (fault_first (Part.Exactly symbols.CloseRound) _ (inr c.in_err-close.ensures.err)))
+pub rescaling-returns-in_err-close_bracket : goal.rescaling-returns-in_err-close_bracket
+rescaling-returns-in_err-close_bracket t c =
+    let fault = err_from_is_err_and c.from_residual-in_err-close_bracket.result c.from_residual-in_err-close_bracket.ensures.1 in
+    rw (fault.1, fault.2) (fault_then (leads_then (leads_then (leads_then (leads_first (Part.Exactly symbols.OpenRound) _ c.in_ok-open_bracket.ensures.ok.leads) (leads_first Part.Number _ c.in_ok-number.ensures.ok.leads)) (leads_first (Part.Exactly symbols.Comma) _ c.in_ok-symbol.ensures.ok.leads)) (leads_first (Part.Chain levels.Or) _ c.in_ok-inner.ensures.reads.leads)) (fault_first (Part.Exactly symbols.CloseRound) _ (inr c.in_err-close_bracket.ensures.err)))
 
 pub rescaling-returns : goal.rescaling-returns
-rescaling-returns t c = made _ _ c.to.result c.to.ensures (λ e is. rw is (to_read _ c.args.place _ _ _ _ _ _ _ _ c.in_ok-open.ensures.ok c.in_ok-number.ensures.ok c.scale_from-scale.ensures c.in_ok-symbol.ensures.ok c.in_ok-inner.ensures c.in_ok-close.ensures.ok))
+rescaling-returns t c = made _ _ c.to.result c.to.ensures (λ e is. rw is (to_read _ c.args.place _ _ _ _ _ _ _ _ c.in_ok-open_bracket.ensures.ok c.in_ok-number.ensures.ok c.scale_from-scale.ensures c.in_ok-symbol.ensures.ok c.in_ok-inner.ensures c.in_ok-close_bracket.ensures.ok))
 
 pub call-returns-in_err-place : goal.call-returns-in_err-place
 call-returns-in_err-place t c =
@@ -297,4 +297,4 @@ pub unary-returns : goal.unary-returns
 unary-returns t c = made _ _ c.one.result c.one.ensures (λ e is. rw is (unary_prefixed c.args.self.now c.node.new.self _ _ _ _ (ap prefix_of (sym c.next.ensures) ∙ sym c.in-Some.ensures) c.in_ok-place.ensures.ok c.in_ok-inner.ensures))
 
 pub bracketed-chain-requires : goal.bracketed-chain-requires
-bracketed-chain-requires t c = (omega (arith, c.decreases, c.in_ok-open.ensures.ok.depth, c.in_ok-open.ensures.ok.shallow), tt)
+bracketed-chain-requires t c = (omega (arith, c.decreases, c.in_ok-open_bracket.ensures.ok.depth, c.in_ok-open_bracket.ensures.ok.shallow), tt)

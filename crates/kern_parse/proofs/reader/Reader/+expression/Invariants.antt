@@ -1,5 +1,5 @@
 use Rattle.std.proofs.Common.{length}
-use Rattle.kern_parse.specs.Found.{Joins, Picks}
+use Rattle.kern_parse.specs.inner.Found.{Joins, Picks}
 use Rattle.kern_parse.proofs.Ranks.{calls_left, rank_of, operand_rank}
 use Rattle.kern_parse.proofs.reader.Reader.+expression.Given as goal
 

@@ -4,7 +4,7 @@ use Rattle.kern_token.specs.declared.token.Symbol.TheVariants as symbols
 use Rattle.kern_token.specs.declared.token.TokenKind.TheVariants as kinds
 use Rattle.kern_token.specs.declared.token.Word.TheVariants as words
 use Rattle.kern_parse.specs.declared.operators.Level.TheVariants as levels
-use Rattle.kern_parse.specs.Reading.{next_kind}
+use Rattle.kern_parse.specs.inner.Reading.{next_kind}
 use Rattle.kern_parse.specs.Required.{Part}
 use Rattle.kern_parse.proofs.Following.{leads_then, leads_first, fault_first, fault_then}
 use Rattle.kern_parse.proofs.Statements.{if_leads, if_full, conditional_read, block_expands, block_read, else_none, else_leads, else_read, stmt_none, lists_none, lists_more, lists_all}
@@ -33,23 +33,23 @@ conditional-returns-in_err-others t c =
 pub conditional-returns : goal.conditional-returns
 conditional-returns t c = conditional_read _ _ _ _ c.args.self.now _ _ _ _ c.requires c.in_ok-place.ensures.ok c.in_ok-condition.ensures c.in_ok-body.ensures c.in_ok-others.ensures
 
-pub block-returns-in_err-open : goal.block-returns-in_err-open
-block-returns-in_err-open t c =
+pub block-returns-in_err-open_bracket : goal.block-returns-in_err-open_bracket
+block-returns-in_err-open_bracket t c =
     let fault = err_from_is_err_and c.from_residual.result c.from_residual.ensures.1 in
-    rw (fault.1, fault.2) (fault_then (block_expands c.args.self.now) (fault_first (Part.Exactly symbols.OpenCurly) _ (inr c.in_err-open.ensures.err)))
+    rw (fault.1, fault.2) (fault_then (block_expands c.args.self.now) (fault_first (Part.Exactly symbols.OpenCurly) _ (inr c.in_err-open_bracket.ensures.err)))
 
 pub block-returns-in_err-stmts : goal.block-returns-in_err-stmts
 block-returns-in_err-stmts t c =
     let fault = err_from_is_err_and c.from_residual-in_err-stmts.result c.from_residual-in_err-stmts.ensures.1 in
-    rw (fault.1, fault.2) (fault_then (leads_then (block_expands c.args.self.now) (leads_first (Part.Exactly symbols.OpenCurly) _ c.in_ok-open.ensures.ok.leads)) (fault_first Part.Stmts _ c.in_err-stmts.ensures))
+    rw (fault.1, fault.2) (fault_then (leads_then (block_expands c.args.self.now) (leads_first (Part.Exactly symbols.OpenCurly) _ c.in_ok-open_bracket.ensures.ok.leads)) (fault_first Part.Stmts _ c.in_err-stmts.ensures))
 
-pub block-returns-in_err-close : goal.block-returns-in_err-close
-block-returns-in_err-close t c =
-    let fault = err_from_is_err_and c.from_residual-in_err-close.result c.from_residual-in_err-close.ensures.1 in
-    rw (fault.1, fault.2) (fault_then (leads_then (leads_then (block_expands c.args.self.now) (leads_first (Part.Exactly symbols.OpenCurly) _ c.in_ok-open.ensures.ok.leads)) (leads_first Part.Stmts _ c.in_ok-stmts.ensures.reads.leads)) (fault_first (Part.Exactly symbols.CloseCurly) _ (inr c.in_err-close.ensures.err)))
+pub block-returns-in_err-close_bracket : goal.block-returns-in_err-close_bracket
+block-returns-in_err-close_bracket t c =
+    let fault = err_from_is_err_and c.from_residual-in_err-close_bracket.result c.from_residual-in_err-close_bracket.ensures.1 in
+    rw (fault.1, fault.2) (fault_then (leads_then (leads_then (block_expands c.args.self.now) (leads_first (Part.Exactly symbols.OpenCurly) _ c.in_ok-open_bracket.ensures.ok.leads)) (leads_first Part.Stmts _ c.in_ok-stmts.ensures.reads.leads)) (fault_first (Part.Exactly symbols.CloseCurly) _ (inr c.in_err-close_bracket.ensures.err)))
 
 pub block-returns : goal.block-returns
-block-returns t c = block_read _ c.args.self.now _ _ _ c.in_ok-open.ensures.ok c.in_ok-stmts.ensures c.in_ok-close.ensures.ok
+block-returns t c = block_read _ c.args.self.now _ _ _ c.in_ok-open_bracket.ensures.ok c.in_ok-stmts.ensures c.in_ok-close_bracket.ensures.ok
 
 pub else_block-returns-then-not-sees_word : goal.else_block-returns-then-not-sees_word
 else_block-returns-then-not-sees_word t c =

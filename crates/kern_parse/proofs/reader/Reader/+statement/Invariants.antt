@@ -1,5 +1,5 @@
 use Rattle.std.proofs.Common.{length}
-use Rattle.kern_parse.specs.Stmts.{Lists}
+use Rattle.kern_parse.specs.inner.Stmts.{Lists}
 use Rattle.kern_parse.proofs.Ranks.{calls_left}
 use Rattle.kern_parse.proofs.reader.Reader.+statement.Given as goal
 

@@ -1,7 +1,7 @@
 use Rattle.std.proofs.Common.{◌≡◌, Some, true, false, refl, inr, rules}
 use Rattle.kern_token.specs.declared.token.Symbol.TheVariants as symbols
 use Rattle.kern_token.specs.declared.token.TokenKind.TheVariants as kinds
-use Rattle.kern_parse.specs.Reading.{next_kind}
+use Rattle.kern_parse.specs.inner.Reading.{next_kind}
 use Rattle.kern_parse.proofs.Statements.{assign_read, assign_refused}
 use Rattle.kern_parse.proofs.reader.Reader.assign.Goals as goal
 

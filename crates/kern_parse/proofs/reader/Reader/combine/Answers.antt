@@ -1,5 +1,5 @@
 use Rattle.std.proofs.Common.{refl, sym, ap, ◌∙◌, inr}
-use Rattle.kern_parse.specs.Decls.{combine_of}
+use Rattle.kern_parse.specs.inner.Decls.{combine_of}
 use Rattle.kern_parse.specs.Required.{Part}
 use Rattle.kern_parse.proofs.Declarations.{combine_read, no_combine}
 use Rattle.kern_parse.proofs.Steps.{refuses}

@@ -1,6 +1,6 @@
 use Rattle.std.proofs.Common.{ap, ◌∙◌, sym}
 use Rattle.std.proofs.lemmas.Result.{err_from_is_err_and}
-use Rattle.kern_parse.specs.Decls.{start_of}
+use Rattle.kern_parse.specs.inner.Decls.{start_of}
 use Rattle.kern_parse.proofs.Declarations.{decls_more, decls_all, start_tells}
 use Rattle.kern_parse.proofs.Following.{fault_then}
 use Rattle.kern_parse.proofs.reader.Reader.declarations.Goals as goal

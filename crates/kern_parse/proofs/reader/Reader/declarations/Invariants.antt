@@ -1,5 +1,5 @@
 use Rattle.std.proofs.Common.{length}
-use Rattle.kern_parse.specs.Decls.{Declares}
+use Rattle.kern_parse.specs.inner.Decls.{Declares}
 use Rattle.kern_parse.proofs.reader.Reader.declarations.Given as goal
 
 abbrev pub invariant-loop-start : goal.invariant-loop-start

@@ -1,5 +1,5 @@
 use Rattle.std.proofs.Common.{refl, sym, ap, ◌∙◌, inr}
-use Rattle.kern_parse.specs.Decls.{kind_of}
+use Rattle.kern_parse.specs.inner.Decls.{kind_of}
 use Rattle.kern_parse.specs.Required.{Part}
 use Rattle.kern_parse.proofs.Declarations.{kind_read, no_kind}
 use Rattle.kern_parse.proofs.Steps.{refuses}

@@ -3,7 +3,7 @@ use Rattle.std.proofs.lemmas.Result.{err_from_is_err_and}
 use Rattle.std.proofs.lemmas.Int.{ints}
 use Rattle.kern_token.specs.declared.token.Symbol.TheVariants as symbols
 use Rattle.kern_token.specs.declared.token.TokenKind.TheVariants as kinds
-use Rattle.kern_parse.specs.Reading.{next_kind}
+use Rattle.kern_parse.specs.inner.Reading.{next_kind}
 use Rattle.kern_parse.proofs.Declarations.{signed_is_number, plain_signed, minus_leads, minus_signed}
 use Rattle.kern_parse.proofs.Following.{fault_then}
 use Rattle.kern_parse.proofs.reader.Reader.signed_number.Goals as goal

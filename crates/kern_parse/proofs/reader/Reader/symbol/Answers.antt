@@ -1,6 +1,6 @@
 use Rattle.std.proofs.Common.{◌≡◌, Some, refl, rules}
 use Rattle.kern_token.specs.declared.token.TokenKind.TheVariants as kinds
-use Rattle.kern_parse.specs.Reading.{next_kind}
+use Rattle.kern_parse.specs.inner.Reading.{next_kind}
 use Rattle.kern_parse.specs.Required.{Part}
 use Rattle.kern_parse.proofs.Steps.{refuses}
 use Rattle.kern_parse.proofs.Taking.{reads_token, exactly_is, exactly_refuses}

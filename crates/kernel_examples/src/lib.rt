@@ -1,0 +1,6 @@
+// The kernel language by examples: from texts to tokens, syntax trees, canonical texts and types.
+// Tests alone, which call nothing but what the crates of the language make public.
+#![tactic(auto)]
+
+#[cfg(test)]
+mod tests;

@@ -1,0 +1,20 @@
+mod parsing;
+mod printing;
+mod reading_back;
+mod shown;
+mod tokens;
+mod trees;
+mod typing;
+
+use kern_parse::parse;
+use kern_token::{KernFault, MOST_TEXT};
+use kern_tree::Kernel;
+use std::alloc::Global;
+use std::process::Abort;
+
+// The kernel of a text, or the first fault of its tokens or of the grammar.
+fn read(rt: &impl Abort, alloc: Global, text: &str) -> Result<Kernel, KernFault> {
+    assert!(rt; text.len() <= MOST_TEXT);
+    let toks = kern_token::tokens(alloc, text.as_bytes())?;
+    parse(alloc, toks.as_slice())
+}
