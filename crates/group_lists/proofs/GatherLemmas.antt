@@ -14,11 +14,11 @@ use Rattle.pf_model.specs.Particles.{HaveDistinctIds}
 use Rattle.pf_model.specs.Criterion.{Criterion}
 use Rattle.pf_model.specs.Division.{Division, IsDivision}
 use Rattle.pf_model.specs.Domains.{particles_of}
-use Rattle.pf_model.specs.Order.{placed, in_order}
+use Rattle.pf_model.specs.Order.{placed, in_order_once}
 use Rattle.pf_model.specs.Sums.{moment_of}
 use Rattle.pf_model.specs.Interaction.{level_of, is_cell_at, leads_to_cell, entry_at, entry_of, comes_before, list_of}
 use Rattle.pf_model.specs.ListLaws.{ListsHoldTheirEntries}
-use Rattle.pf_model.specs.MomentLaws.{ListsIgnoreOrder}
+use Rattle.pf_model.specs.ListLaws.{ListsIgnoreOrder}
 use Rattle.pf_model.specs.DomainLaws.{OneRankHasItsOwn, AllRanksHaveAll}
 use Rattle.morton_tree.specs.declared.group.Group.{Group}
 use Rattle.group_lists.specs.declared.listed.Listed.{Listed}
@@ -31,9 +31,9 @@ length-placed {X} before x (y ∷ ys) =
     let P : List X → Type 0 = λ l. length l ≤ suc (suc (length ys)) in
     cond_both (before x y) _ _ P (λ _. omega arith) (λ _. cond_both (before y x) _ _ P (λ _. let rest = length-placed before x ys in omega arith) (λ _. omega arith))
 
-pub length-in_order : {X : Type 0} (before : X → X → Bool) (xs : List X) → length (in_order before xs) ≤ length xs
+pub length-in_order : {X : Type 0} (before : X → X → Bool) (xs : List X) → length (in_order_once before xs) ≤ length xs
 length-in_order before [] = omega arith
-length-in_order before (x ∷ xs) = let more = length-placed before x (in_order before xs) in let rest = length-in_order before xs in omega arith
+length-in_order before (x ∷ xs) = let more = length-placed before x (in_order_once before xs) in let rest = length-in_order before xs in omega arith
 
 -- a list over particles has no more entries than there are particles
 pub length-list_of : (t : Criterion) (box : Bounds) (js : List Particle) → length (list_of t box js) ≤ length js

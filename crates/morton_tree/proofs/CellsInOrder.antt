@@ -8,7 +8,7 @@ use Rattle.std.proofs.lemmas.List.Elements.{All-head, All-tail, All-map}
 use Rattle.pf_geom.specs.Key.{morton_key}
 use Rattle.pf_geom.specs.Octant.{Octant}
 use Rattle.pf_model.specs.Particle.{Particle}
-use Rattle.pf_model.specs.Order.{placed, in_order}
+use Rattle.pf_model.specs.Order.{placed, in_order_once}
 use Rattle.pf_model.specs.Group.{group_cell, has_lower_corner, group_cells}
 use Rattle.morton_tree.specs.Tree.{IsInKeyOrder}
 use Rattle.morton_tree.specs.declared.group.Group.{Group}
@@ -34,13 +34,13 @@ placed_again : (c : Octant) (cs : List Octant) → placed has_lower_corner c (c 
 placed_again c cs = cond-false (has_lower_corner c c) _ _ (not_before_itself c) ∙ cond-false (has_lower_corner c c) _ _ (not_before_itself c)
 
 -- a run of one cell before others counts once
-run_in_order : (c : Octant) (xs ys cs : List Octant) → 1 ≤ length xs → All (λ x. x ≡ c) xs → in_order has_lower_corner ys ≡ cs → IsBeforeFirst c cs → in_order has_lower_corner (xs ++ ys) ≡ c ∷ cs
+run_in_order : (c : Octant) (xs ys cs : List Octant) → 1 ≤ length xs → All (λ x. x ≡ c) xs → in_order_once has_lower_corner ys ≡ cs → IsBeforeFirst c cs → in_order_once has_lower_corner (xs ++ ys) ≡ c ∷ cs
 run_in_order c [] ys cs some same rest before = absurd (omega arith)
 run_in_order c (x ∷ []) ys cs some same rest before =
-    ap (λ (y : Octant). placed has_lower_corner y (in_order has_lower_corner ys)) (All-head (λ (y : Octant). y ≡ c) x [] same)
+    ap (λ (y : Octant). placed has_lower_corner y (in_order_once has_lower_corner ys)) (All-head (λ (y : Octant). y ≡ c) x [] same)
     ∙ ap (placed has_lower_corner c) rest ∙ placed_first c cs before
 run_in_order c (x ∷ y ∷ xs) ys cs some same rest before =
-    ap (λ (z : Octant). placed has_lower_corner z (in_order has_lower_corner ((y ∷ xs) ++ ys))) (All-head (λ (z : Octant). z ≡ c) x (y ∷ xs) same)
+    ap (λ (z : Octant). placed has_lower_corner z (in_order_once has_lower_corner ((y ∷ xs) ++ ys))) (All-head (λ (z : Octant). z ≡ c) x (y ∷ xs) same)
     ∙ ap (placed has_lower_corner c) (run_in_order c (y ∷ xs) ys cs (omega arith) (All-tail (λ (z : Octant). z ≡ c) x (y ∷ xs) same) rest before) ∙ placed_again c cs
 
 -- the cell of a group comes before that of the next
@@ -68,9 +68,9 @@ before_next limit js start g (h ∷ gs) ordered made all begins follow d =
     lower_corner limit js g h ordered made (All-head (IsMade limit js) h gs all) (let next = follow.0 in omega arith) d
 
 cells_are : (limit : ℕ) (js : List Particle) (start : ℕ) (gs : List Group) → IsInKeyOrder js → All (IsMade limit js) gs → FollowOneAnother start (length js) (map (λ g. g.span) gs) → Particle →
-    in_order has_lower_corner (cells_from limit js start) ≡ map (λ g. g.cell) gs
+    in_order_once has_lower_corner (cells_from limit js start) ≡ map (λ g. g.cell) gs
 cells_are limit js start [] ordered all follow d =
-    ap (λ (l : List Particle). in_order has_lower_corner (map (λ i. group_cell limit js i.at) l)) (drop_all start js (let end = follow in omega arith))
+    ap (λ (l : List Particle). in_order_once has_lower_corner (map (λ i. group_cell limit js i.at) l)) (drop_all start js (let end = follow in omega arith))
 cells_are limit js start (g ∷ gs) ordered all follow d =
     let made = All-head (IsMade limit js) g gs all in
     let some = made.group.some in
@@ -88,8 +88,8 @@ cells_are limit js start (g ∷ gs) ordered all follow d =
     let place : start + k < start + n = omega arith in
     let at : get_or front k e ≡ get_or js (start + k) e = get_or-take n (drop start js) k e (omega arith) ∙ get_or-drop start js k e in
     ap cell_of at ∙ sym (made.group.cell (get_or js (start + k) e) (in_span g.span js (start + k) e (omega arith) (omega arith) (omega arith)))) in
-    ap (λ (l : List Particle). in_order has_lower_corner (map cell_of l)) split
-    ∙ ap (in_order has_lower_corner) (map-append cell_of front (drop (start + n) js))
+    ap (λ (l : List Particle). in_order_once has_lower_corner (map cell_of l)) split
+    ∙ ap (in_order_once has_lower_corner) (map-append cell_of front (drop (start + n) js))
     ∙ run_in_order g.cell (map cell_of front) (cells_from limit js (start + n)) (map (λ h. h.cell) gs)
     (rw length-map (omega arith)) same rest (before_next limit js start g gs ordered made (All-tail (IsMade limit js) g gs all) begins follow.1 d)
 

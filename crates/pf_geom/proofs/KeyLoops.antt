@@ -16,10 +16,10 @@ spread_more count n (suc m) positive within =
     let same = ap (λ h. spread_bits (count - suc m) h) half in
     rw (below, rest) (omega (arith, spread_bits-suc (count - suc m) (n / 2 ^ m), shr_and_one n m, same))
 
--- one bit more of a gathered number
-pub gather_more : (count k b : ℕ) → 0 < b → b ≤ count → 2 * every_third_bit (count - b) (k / 2 ^ (3 * b)) + bit_and (k / 2 ^ (3 * (b - 1))) 1 ≡ every_third_bit (count - (b - 1)) (k / 2 ^ (3 * (b - 1)))
-gather_more count k zero positive within = absurd (omega arith)
-gather_more count k (suc m) positive within =
+-- one bit more of a bits number
+pub every_third_bit-more : (count k b : ℕ) → 0 < b → b ≤ count → 2 * every_third_bit (count - b) (k / 2 ^ (3 * b)) + bit_and (k / 2 ^ (3 * (b - 1))) 1 ≡ every_third_bit (count - (b - 1)) (k / 2 ^ (3 * (b - 1)))
+every_third_bit-more count k zero positive within = absurd (omega arith)
+every_third_bit-more count k (suc m) positive within =
     let below : suc m - 1 ≡ m = omega arith in
     let rest : count - m ≡ suc (count - suc m) = omega arith in
     let place : 3 * m + 3 ≡ 3 * suc m = omega arith in
@@ -35,7 +35,7 @@ pub every_third_bit-zero : (k : ℕ) → every_third_bit 0 k ≡ 0
 unfolding every_third_bit
 every_third_bit-zero k = refl
 
--- a spread coordinate has at most 88 bits, and a gathered one at most 30
+-- a spread coordinate has at most 88 bits, and a bits one at most 30
 pub spread_bits-lt : (count n : ℕ) → count ≤ 30 → 7 * spread_bits count n + 1 ≤ 8 ^ 30
 spread_bits-lt count n within =
     let most : 8 ^ count ≤ 8 ^ 30 = pow-le-pow_right (omega arith) within in

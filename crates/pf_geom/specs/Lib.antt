@@ -3,4 +3,5 @@ pub mod Bounds
 pub mod Key
 pub mod Octant
 pub mod Gap
-pub mod Laws
+pub mod CellLaws
+pub mod BoxLaws

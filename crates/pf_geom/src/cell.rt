@@ -2,7 +2,7 @@ ghost use Rattle.std.specs.Prelude.{◌≡◌, ◌≤◌, ◌↔◌, IsTrue};
 ghost use Rattle.pf_geom.specs.Octant.{side_at, cell_at, IsIn, corner_of, IsCornerOf, closed_box};
 
 use crate::box3::Box3;
-use crate::key::{gather, key_of};
+use crate::key::{every_third_bit, key_of};
 use crate::point::Point;
 use std::marker::Model;
 
@@ -48,9 +48,9 @@ pub fn corner(c: Cell) -> Point
 {
     let side = side_of(c.level);
     Point {
-        x: side * gather(c.key >> 2, c.level),
-        y: side * gather(c.key >> 1, c.level),
-        z: side * gather(c.key, c.level),
+        x: side * every_third_bit(c.key >> 2, c.level),
+        y: side * every_third_bit(c.key >> 1, c.level),
+        z: side * every_third_bit(c.key, c.level),
     }
 }
 
@@ -76,7 +76,7 @@ pub fn contains(c: Cell, p: Point) -> bool
 }
 
 // The box of all points of a cell.
-pub(crate) fn box_of(c: Cell) -> Box3
+pub(crate) fn closed_box(c: Cell) -> Box3
     ensures { result ≡ closed_box c }
 {
     let lo = corner(c);

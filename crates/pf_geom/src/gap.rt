@@ -2,7 +2,7 @@ ghost use Rattle.std.specs.Prelude.{◌≡◌, ◌*◌, ◌^◌, ◌<◌, ◌≤
 ghost use Rattle.pf_geom.specs.Gap.{open_gap, periodic_gap, axis_gap, square, gap2_to};
 
 use crate::box3::Box3;
-use crate::cell::{Cell, box_of};
+use crate::cell::{Cell, closed_box};
 use crate::edge::Edge;
 use crate::point::CUBE_SIDE;
 
@@ -28,7 +28,7 @@ pub fn gap2_across(edge: Edge, b: Box3, c: Cell) -> u128
     ensures value { result ≡ gap2_to edge b c }
     ensures fits { result < 3 * 2 ^ 60 }
 {
-    let cell = box_of(c);
+    let cell = closed_box(c);
     let from = b.lo;
     let to = b.hi;
     let lo = cell.lo;

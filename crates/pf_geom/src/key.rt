@@ -25,13 +25,13 @@ fn spread(coordinate: u32) -> u128
 }
 
 // The number with bit 3t of the key at place t, for each t below the count.
-pub(crate) fn gather(key: u128, count: u32) -> u32
+pub(crate) fn every_third_bit(key: u128, count: u32) -> u32
     requires { count ≤ 30 }
     ensures { result ≡ every_third_bit count key }
 {
-    let mut gathered = 0;
+    let mut bits = 0;
     for bit in (0..count).rev() {
-        gathered = 2 * gathered + (key >> (3 * bit) & 1) as u32;
+        bits = 2 * bits + (key >> (3 * bit) & 1) as u32;
     }
-    gathered
+    bits
 }

@@ -1,7 +1,8 @@
 // The laws of keys, cells, boxes and gaps, each the contract of a function that does nothing when it
 // runs. A caller whose proof needs a law calls its function.
 
-ghost use Rattle.pf_geom.specs.Laws.{KeysInterleave, KeysAreDistinct, CellsHaveEqualFloors, PositionsHaveCells, CellsAreKeyRanges, CellsOfAPositionNest, CellsNest, CornersAreFloors, CornersLieInside, ClosedBoxesHoldTheirCells, BoxesRoundAreLeast, GapsAreBounded, GapsGrowAsBoxesShrink, GapsGrowAsCellsShrink, GapsVanishWhereShared};
+ghost use Rattle.pf_geom.specs.CellLaws.{KeysInterleave, KeysAreDistinct, CellsHaveEqualFloors, PositionsHaveCells, CellsAreKeyRanges, CellsOfAPositionNest, CellsNest, CornersAreFloors, CornersLieInside, ClosedBoxesHoldTheirCells};
+ghost use Rattle.pf_geom.specs.BoxLaws.{BoxesRoundAreLeast, GapsAreBounded, GapsGrowAsBoxesShrink, GapsGrowAsCellsShrink, GapsVanishWhereShared};
 
 /// The bits of a key are those of its position.
 pub fn keys_interleave()

@@ -13,7 +13,7 @@ use Rattle.std.proofs.lemmas.Map.Views.{list_any-from_Contains}
 use Rattle.pf_geom.specs.Position.{Position}
 use Rattle.pf_model.specs.Particle.{Particle}
 use Rattle.pf_model.specs.Division.{Division, IsDivision, rank_count}
-use Rattle.pf_model.specs.Domains.{Multisection, run_at, cuts_in_slab, cuts_in_column, cut_before, cuts_of, slab_of, owner_by, cuts_for, owner, particles_of}
+use Rattle.pf_model.specs.Domains.{Multisection, piece_at, cuts_in_slab, cuts_in_column, cut_before, cuts_of, slab_of, owner_by, cuts_for, owner, particles_of}
 use Rattle.pf_model.specs.DomainLaws.{OwnersAreRanks, OwnersByCutsAreRanks, OneRankHasItsOwn, AllRanksHaveAll, LoneRanksHaveAll}
 
 length-cuts_of : (along : Position → ℕ) (js : List Particle) (m : ℕ) → length (cuts_of along js m) ≡ m - 1
@@ -23,8 +23,8 @@ length-cuts_of along js m = length-map-range_with_len (cut_before along js m) 1 
 slab_below : (cuts : List ℕ) (m n : ℕ) → 1 ≤ m → length cuts ≤ m - 1 → slab_of cuts n < m
 slab_below cuts m n some long = let most = count_by-le-length (λ cut. nat_le cut n) cuts in omega arith
 
-run_at-short : (len : ℕ) (cuts : List ℕ) (k : ℕ) → length (run_at len cuts k) ≤ len
-run_at-short len cuts k = let short = length-take len (drop (k * len) cuts) in omega arith
+piece_at-short : (len : ℕ) (cuts : List ℕ) (k : ℕ) → length (piece_at len cuts k) ≤ len
+piece_at-short len cuts k = let short = length-take len (drop (k * len) cuts) in omega arith
 
 box_below : (ix iy iz nx ny nz : ℕ) → ix < nx → iy < ny → iz < nz → (ix * ny + iy) * nz + iz < nx * ny * nz
 box_below ix iy iz nx ny nz in_x in_y in_z =
@@ -41,8 +41,8 @@ owner_by-below s p h along_x =
     let iz = slab_of (cuts_in_column s ix iy) p.z in
     box_below ix iy iz s.grid.nx s.grid.ny s.grid.nz
     (slab_below s.x s.grid.nx p.x h.some_x along_x)
-    (slab_below (cuts_in_slab s ix) s.grid.ny p.y h.some_y (run_at-short (s.grid.ny - 1) s.y ix))
-    (slab_below (cuts_in_column s ix iy) s.grid.nz p.z h.some_z (run_at-short (s.grid.nz - 1) s.z (ix * s.grid.ny + iy)))
+    (slab_below (cuts_in_slab s ix) s.grid.ny p.y h.some_y (piece_at-short (s.grid.ny - 1) s.y ix))
+    (slab_below (cuts_in_column s ix iy) s.grid.nz p.z h.some_z (piece_at-short (s.grid.nz - 1) s.z (ix * s.grid.ny + iy)))
 
 pub owners_by_cuts_are_ranks : OwnersByCutsAreRanks
 owners_by_cuts_are_ranks s p h = let long = h.along_x.counted in owner_by-below s p h.division (omega arith)

@@ -6,7 +6,7 @@ use Rattle.pf_geom.specs.Position.{Position}
 use Rattle.pf_geom.specs.Bounds.{Bounds}
 use Rattle.pf_model.specs.Particle.{Particle}
 use Rattle.pf_model.specs.Division.{Division, IsDivision}
-use Rattle.pf_model.specs.Order.{in_order}
+use Rattle.pf_model.specs.Order.{in_order_once}
 
 -- a multisection as clauses see it: the cuts along x, then those along y in each slab of x, and then those along
 -- z in each column of each slab
@@ -16,17 +16,17 @@ pub record Multisection : Type 0 where
   pub y : List ℕ
   pub z : List ℕ
 
--- run k, counted from 0, of the runs of one length that a list is made of
-abbrev pub run_at : ℕ → List ℕ → ℕ → List ℕ
-run_at len cuts k = take len (drop (k * len) cuts)
+-- piece k, counted from 0, of the pieces of one length that a list is made of
+abbrev pub piece_at : ℕ → List ℕ → ℕ → List ℕ
+piece_at len cuts k = take len (drop (k * len) cuts)
 
 -- the cuts along y in a slab
 abbrev pub cuts_in_slab : Multisection → ℕ → List ℕ
-cuts_in_slab s ix = run_at (s.grid.ny - 1) s.y ix
+cuts_in_slab s ix = piece_at (s.grid.ny - 1) s.y ix
 
 -- the cuts along z in a column of the slab
 abbrev pub cuts_in_column : Multisection → ℕ → ℕ → List ℕ
-cuts_in_column s ix iy = run_at (s.grid.nz - 1) s.z (ix * s.grid.ny + iy)
+cuts_in_column s ix iy = piece_at (s.grid.nz - 1) s.z (ix * s.grid.ny + iy)
 
 -- so many cuts in ascending order, of which some may be equal: each is a coordinate, or the side of the cube
 pub record AreCuts (count : ℕ) (cuts : List ℕ) : Type 0 where
@@ -40,8 +40,8 @@ pub record IsMultisection (s : Multisection) : Type 0 where
   pub along_x : AreCuts (s.grid.nx - 1) s.x
   pub along_y : (ix : ℕ) → ix < s.grid.nx → AreCuts (s.grid.ny - 1) (cuts_in_slab s ix)
   pub along_z : (ix iy : ℕ) → ix < s.grid.nx → iy < s.grid.ny → AreCuts (s.grid.nz - 1) (cuts_in_column s ix iy)
-  pub slabs : length s.y ≡ s.grid.nx * (s.grid.ny - 1)
-  pub columns : length s.z ≡ s.grid.nx * s.grid.ny * (s.grid.nz - 1)
+  pub all_y : length s.y ≡ s.grid.nx * (s.grid.ny - 1)
+  pub all_z : length s.z ≡ s.grid.nx * s.grid.ny * (s.grid.nz - 1)
 
 -- the slab of a coordinate: the number of cuts that are at most it
 abbrev pub slab_of : List ℕ → ℕ → ℕ
@@ -82,7 +82,7 @@ comes_first along p q = nat_lt (along p.at) (along q.at) || (nat_eq (along p.at)
 
 -- the coordinates of the particles, in this order
 abbrev pub coordinates_of : (Position → ℕ) → List Particle → List ℕ
-coordinates_of along js = map (λ j. along j.at) (in_order (comes_first along) js)
+coordinates_of along js = map (λ j. along j.at) (in_order_once (comes_first along) js)
 
 -- the cut before slab k of m: the coordinate at place floor(n k / m), and 2^30 where there are no particles
 abbrev pub cut_before : (Position → ℕ) → List Particle → ℕ → ℕ → ℕ

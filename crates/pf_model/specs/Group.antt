@@ -5,7 +5,7 @@ use Rattle.pf_geom.specs.Position.{Position}
 use Rattle.pf_geom.specs.Bounds.{Bounds, box_round}
 use Rattle.pf_geom.specs.Octant.{Octant, cell_at}
 use Rattle.pf_model.specs.Particle.{Particle}
-use Rattle.pf_model.specs.Order.{least_below, in_order}
+use Rattle.pf_model.specs.Order.{least_below, in_order_once}
 use Rattle.pf_model.specs.Interaction.{is_cell}
 
 -- the particles that lie in a cell
@@ -36,4 +36,4 @@ has_lower_corner c d = nat_lt (c.key * 8 ^ (DEEPEST - c.level)) (d.key * 8 ^ (DE
 
 -- the cells of a rank's groups, in the order of their numbers
 unfoldable pub group_cells : ℕ → List Particle → List Octant
-group_cells limit own = in_order has_lower_corner (map (λ i. group_cell limit own i.at) own)
+group_cells limit own = in_order_once has_lower_corner (map (λ i. group_cell limit own i.at) own)

@@ -10,7 +10,7 @@ use Rattle.pf_model.specs.declared.entry.Entry.TheVariants.{Cell, One}
 use Rattle.pf_model.specs.Particle.{Particle}
 use Rattle.pf_model.specs.Criterion.{Criterion}
 use Rattle.pf_model.specs.Totals.{Source}
-use Rattle.pf_model.specs.Order.{least_below, in_order}
+use Rattle.pf_model.specs.Order.{least_below, in_order_once}
 use Rattle.pf_model.specs.Sums.{moment_of, source_of}
 
 -- whether `Passes` holds
@@ -56,7 +56,7 @@ IsInListOrder es = AllPairs (λ e f. IsTrue (comes_before e f)) es
 
 -- the list of a box over the particles js: the entries that they lead to, each once, in order
 unfoldable pub list_of : Criterion → Bounds → List Particle → List Entry
-list_of t box js = in_order comes_before (map (entry_of t box js) js)
+list_of t box js = in_order_once comes_before (map (entry_of t box js) js)
 
 -- whether the particle leads to the entry
 abbrev pub leads_to : Criterion → Bounds → Entry → Particle → Bool

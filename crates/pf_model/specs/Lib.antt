@@ -13,7 +13,7 @@ pub mod EssentialTree
 pub mod Groups
 pub mod Reuse
 pub mod Fields
-pub mod Laws
+pub mod OpeningLaws
 pub mod ListLaws
 pub mod MomentLaws
 pub mod DomainLaws

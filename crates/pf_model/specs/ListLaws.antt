@@ -1,5 +1,5 @@
 -- Laws of interaction lists.
-use Rattle.std.specs.Prelude.{◌≡◌, ℕ, ◌<◌, ◌≤◌, ◌↔◌, List, length, Some, None, Contains, slice_index_or}
+use Rattle.std.specs.Prelude.{◌≡◌, ℕ, ◌<◌, ◌≤◌, ◌↔◌, List, length, Some, None, Contains, IsPermutation, slice_index_or}
 use Rattle.pf_geom.specs.declared.cell.TheConstants.{DEEPEST}
 use Rattle.pf_geom.specs.Position.{Position}
 use Rattle.pf_geom.specs.Bounds.{Bounds}
@@ -41,3 +41,8 @@ abbrev pub EachIsInOneEntry : Type 0
 EachIsInOneEntry =
     (t : Criterion) (box : Bounds) (js : List Particle) (j : Particle) → HaveDistinctIds js → Contains js j →
     (k : ℕ) × (k < length (list_of t box js)) × ((i : ℕ) (e : Entry) → i < length (list_of t box js) → Contains (members_of t box js (slice_index_or (list_of t box js) i e)) j ↔ (i ≡ k))
+
+-- the order of particles changes nothing in a list over them
+abbrev pub ListsIgnoreOrder : Type 0
+ListsIgnoreOrder =
+    (t : Criterion) (box : Bounds) (js ks : List Particle) → HaveDistinctIds js → IsPermutation js ks → list_of t box js ≡ list_of t box ks

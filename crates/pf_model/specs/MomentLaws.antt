@@ -1,11 +1,7 @@
 -- Laws of moments.
 use Rattle.std.specs.Prelude.{◌≡◌, List, ◌++◌, IsPermutation}
-use Rattle.pf_geom.specs.Bounds.{Bounds}
 use Rattle.pf_model.specs.Particle.{Particle}
-use Rattle.pf_model.specs.Particles.{HaveDistinctIds}
-use Rattle.pf_model.specs.Criterion.{Criterion}
 use Rattle.pf_model.specs.Sums.{moment_of, together}
-use Rattle.pf_model.specs.Interaction.{list_of}
 
 -- the moment of some particles and others is that of both together
 abbrev pub MomentsAddUp : Type 0
@@ -19,8 +15,3 @@ MomentsCancel =
 -- the order of particles changes nothing in their moment
 abbrev pub MomentsIgnoreOrder : Type 0
 MomentsIgnoreOrder = (js ks : List Particle) → IsPermutation js ks → moment_of js ≡ moment_of ks
-
--- nor in a list over them
-abbrev pub ListsIgnoreOrder : Type 0
-ListsIgnoreOrder =
-    (t : Criterion) (box : Bounds) (js ks : List Particle) → HaveDistinctIds js → IsPermutation js ks → list_of t box js ≡ list_of t box ks

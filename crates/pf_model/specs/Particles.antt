@@ -3,7 +3,7 @@ use Rattle.std.specs.Prelude.{◌≤◌, List, length, map, nat_eq, nat_lt}
 use Rattle.std.specs.List.{IsDistinct}
 use Rattle.pf_model.specs.declared.limits.TheConstants.{MOST_PARTICLES}
 use Rattle.pf_model.specs.Particle.{Particle}
-use Rattle.pf_model.specs.Order.{in_order}
+use Rattle.pf_model.specs.Order.{in_order_once}
 
 -- no two particles have one id
 abbrev pub HaveDistinctIds : List Particle → Type 0
@@ -16,4 +16,4 @@ pub record AreBodies (js : List Particle) : Type 0 where
 
 -- the particles in the order of their ids
 abbrev pub by_id : List Particle → List Particle
-by_id js = in_order (λ p q. nat_lt p.id q.id) js
+by_id js = in_order_once (λ p q. nat_lt p.id q.id) js

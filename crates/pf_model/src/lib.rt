@@ -3,35 +3,41 @@
 #![tactic(auto)]
 
 mod body;
+mod domain_laws;
 mod entry;
 mod ess_tree;
 mod field;
 mod grid;
 mod item;
-mod laws;
 mod least_box;
 mod limits;
+mod list_laws;
 mod moment;
+mod moment_laws;
+mod opening_laws;
 mod plain_group;
 mod plain_list;
 mod steps;
 mod theta;
 
 pub use body::Body;
+pub use domain_laws::{
+    all_ranks_have_all, lone_ranks_have_all, one_rank_has_its_own, owners_are_ranks,
+    owners_by_cuts_are_ranks,
+};
 pub use entry::Entry;
 pub use ess_tree::{EssTree, Terms};
 pub use field::Field;
 pub use grid::Grid;
 pub use item::Item;
-pub use laws::{
-    all_ranks_have_all, cells_inside_pass, cells_pass_for_boxes_inside, each_is_in_one_entry,
-    levels_are_least, lists_hold_their_entries, lists_ignore_order, lone_ranks_have_all,
-    moments_add_up, moments_cancel, moments_ignore_order, one_rank_has_its_own, owners_are_ranks,
-    owners_by_cuts_are_ranks, passing_cells_lie_apart,
-};
 pub use least_box::box_of;
 pub use limits::{MOST_GROUP, MOST_PARTICLES, MOST_RANKS};
+pub use list_laws::{
+    each_is_in_one_entry, levels_are_least, lists_hold_their_entries, lists_ignore_order,
+};
 pub use moment::Moment;
+pub use moment_laws::{moments_add_up, moments_cancel, moments_ignore_order};
+pub use opening_laws::{cells_inside_pass, cells_pass_for_boxes_inside, passing_cells_lie_apart};
 pub use plain_group::slow_group;
 pub use plain_list::slow_list;
 pub use steps::Steps;

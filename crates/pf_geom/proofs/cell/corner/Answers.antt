@@ -4,25 +4,25 @@ use Rattle.pf_geom.proofs.CellLemmas.{octant}
 use Rattle.pf_geom.proofs.CornerLemmas.{IsRead, read_fits, IsInCube-read, corner_of-read, IsCornerOf-corner_of}
 use Rattle.pf_geom.proofs.cell.corner.Goals as goal
 
-read : (c : goal.After-gather-3) → IsRead (octant c.c.inside.level c.c.inside.key) c.side_of-side.result c.gather.result c.gather-2.result c.gather-3.result
+read : (c : goal.After-every_third_bit-3) → IsRead (octant c.c.inside.level c.c.inside.key) c.side_of-side.result c.every_third_bit.result c.every_third_bit-2.result c.every_third_bit-3.result
 read c = record {
   side_is = c.side_of-side.ensures;
-  x_is = c.gather.ensures;
-  y_is = c.gather-2.ensures;
-  z_is = c.gather-3.ensures;
+  x_is = c.every_third_bit.ensures;
+  y_is = c.every_third_bit-2.ensures;
+  z_is = c.every_third_bit-3.ensures;
 }
 
 pub overflow_mul-result : goal.overflow_mul-result
 overflow_mul-result c =
-    omega (arith, read_fits c.c.inside.level c.side_of-side.result c.gather.result (c.c.inside.key / 4) c.c.invariant.level_fits c.side_of-side.ensures c.gather.ensures)
+    omega (arith, read_fits c.c.inside.level c.side_of-side.result c.every_third_bit.result (c.c.inside.key / 4) c.c.invariant.level_fits c.side_of-side.ensures c.every_third_bit.ensures)
 
 pub overflow_mul-result-2 : goal.overflow_mul-result-2
 overflow_mul-result-2 c =
-    omega (arith, read_fits c.c.inside.level c.side_of-side.result c.gather-2.result (c.c.inside.key / 2) c.c.invariant.level_fits c.side_of-side.ensures c.gather-2.ensures)
+    omega (arith, read_fits c.c.inside.level c.side_of-side.result c.every_third_bit-2.result (c.c.inside.key / 2) c.c.invariant.level_fits c.side_of-side.ensures c.every_third_bit-2.ensures)
 
 pub overflow_mul-result-3 : goal.overflow_mul-result-3
 overflow_mul-result-3 c =
-    omega (arith, read_fits c.c.inside.level c.side_of-side.result c.gather-3.result c.c.inside.key c.c.invariant.level_fits c.side_of-side.ensures c.gather-3.ensures)
+    omega (arith, read_fits c.c.inside.level c.side_of-side.result c.every_third_bit-3.result c.c.inside.key c.c.invariant.level_fits c.side_of-side.ensures c.every_third_bit-3.ensures)
 
 pub invariant_of-result : goal.invariant_of-result
 invariant_of-result c = IsInCube-read _ _ _ _ _ c.c.invariant (read c)

@@ -4,4 +4,4 @@ use Rattle.pf_geom.proofs.gap.gap2_across.Goals as goal
 pub returns-clause-value : goal.returns-clause-value
 unfolding gap2_to
 returns-clause-value c =
-    rw (← c.b.view_is, ← c.box_of-cell.ensures, ← c.cell.view_is, ← c.from.view_is, ← c.to.view_is, ← c.lo.view_is, ← c.hi.view_is, c.square.ensures.value, c.square-2.ensures.value, c.square-3.ensures.value, c.axis_gap.ensures.value, c.axis_gap-2.ensures.value, c.axis_gap-3.ensures.value)
+    rw (← c.b.view_is, ← c.closed_box-cell.ensures, ← c.cell.view_is, ← c.from.view_is, ← c.to.view_is, ← c.lo.view_is, ← c.hi.view_is, c.square.ensures.value, c.square-2.ensures.value, c.square-3.ensures.value, c.axis_gap.ensures.value, c.axis_gap-2.ensures.value, c.axis_gap-3.ensures.value)
