@@ -91,6 +91,10 @@ ancestor_at-cell_at p lower higher order within =
     in
     octant_eq (ancestor_at (cell_at p higher) lower) (cell_at p lower) refl keys
 
+pub shared_cell : (p q : Position) (lower higher : ℕ) → lower ≤ higher → higher ≤ 30 → cell_at p higher ≡ cell_at q higher → cell_at p lower ≡ cell_at q lower
+shared_cell p q lower higher order within same =
+    sym (ancestor_at-cell_at p lower higher order within) ∙ ap (λ (c : Octant). ancestor_at c lower) same ∙ ancestor_at-cell_at q lower higher order within
+
 -- the shift of a key to a level
 pub eight_pow : (n : ℕ) → 2 ^ (3 * n) ≡ 8 ^ n
 eight_pow zero = refl

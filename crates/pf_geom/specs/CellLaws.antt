@@ -21,7 +21,7 @@ CellsHaveEqualFloors =
 
 -- a position has a cell at each level
 abbrev pub PositionsHaveCells : Type 0
-PositionsHaveCells = (p : Position) (level : ℕ) → IsPosition p → level ≤ DEEPEST → IsCell (cell_at p level)
+PositionsHaveCells = (p : Position) (level : ℕ) → level ≤ DEEPEST → IsCell (cell_at p level)
 
 -- the keys of a cell's positions are a run without gaps
 abbrev pub CellsAreKeyRanges : Type 0
@@ -32,6 +32,11 @@ CellsAreKeyRanges =
 abbrev pub CellsOfAPositionNest : Type 0
 CellsOfAPositionNest =
     (p : Position) (lower higher : ℕ) → lower ≤ higher → higher ≤ DEEPEST → ancestor_at (cell_at p higher) lower ≡ cell_at p lower
+
+-- positions in one cell are in one cell at each lower level
+abbrev pub PositionsShareLowerCells : Type 0
+PositionsShareLowerCells =
+    (p q : Position) (lower higher : ℕ) → lower ≤ higher → higher ≤ DEEPEST → cell_at p higher ≡ cell_at q higher → cell_at p lower ≡ cell_at q lower
 
 -- a cell lies inside another exactly where that is its ancestor
 abbrev pub CellsNest : Type 0

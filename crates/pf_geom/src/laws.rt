@@ -1,7 +1,7 @@
 // The laws of keys, cells, boxes and gaps, each the contract of a function that does nothing when it
 // runs. A caller whose proof needs a law calls its function.
 
-ghost use Rattle.pf_geom.specs.CellLaws.{KeysInterleave, KeysAreDistinct, CellsHaveEqualFloors, PositionsHaveCells, CellsAreKeyRanges, CellsOfAPositionNest, CellsNest, CornersAreFloors, CornersLieInside, ClosedBoxesHoldTheirCells};
+ghost use Rattle.pf_geom.specs.CellLaws.{KeysInterleave, KeysAreDistinct, CellsHaveEqualFloors, PositionsHaveCells, CellsAreKeyRanges, CellsOfAPositionNest, PositionsShareLowerCells, CellsNest, CornersAreFloors, CornersLieInside, ClosedBoxesHoldTheirCells};
 ghost use Rattle.pf_geom.specs.BoxLaws.{BoxesRoundAreLeast, GapsAreBounded, GapsGrowAsBoxesShrink, GapsGrowAsCellsShrink, GapsVanishWhereShared};
 
 /// The bits of a key are those of its position.
@@ -32,6 +32,11 @@ pub fn cells_are_key_ranges()
 /// The cells of one position lie in one another.
 pub fn cells_of_a_position_nest()
     ensures { CellsOfAPositionNest }
+{}
+
+/// Positions in one cell are in one cell at each lower level.
+pub fn positions_share_lower_cells()
+    ensures { PositionsShareLowerCells }
 {}
 
 /// A cell lies inside another exactly where that is its ancestor.

@@ -10,3 +10,6 @@ mod OrderlessSums
 mod DifferenceLemmas
 mod BoxLemmas
 mod RankLemmas
+mod PermutationLemmas
+mod MemberLemmas
+mod GroupOrderLemmas

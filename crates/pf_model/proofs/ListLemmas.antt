@@ -41,7 +41,7 @@ contains_from_in (y ∷ ys) x (inr h) = contains_more y ys x (contains_from_in y
 in_at_place : {X : Type 0} (xs : List X) (k : ℕ) (d : X) → k < length xs → In (get_or xs k d) xs
 in_at_place xs k d h = in_from_contains xs (get_or xs k d) (Contains-get_or xs k d h)
 
-before_at : {X : Type 0} (before : X → X → Bool) (ys : List X) → IsAscending before ys → (i j : ℕ) (d : X) → i < j → j < length ys → before (get_or ys i d) (get_or ys j d) ≡ true
+pub before_at : {X : Type 0} (before : X → X → Bool) (ys : List X) → IsAscending before ys → (i j : ℕ) (d : X) → i < j → j < length ys → before (get_or ys i d) (get_or ys j d) ≡ true
 before_at before [] a i j d less within = absurd (omega arith)
 before_at before (y ∷ ys) a i zero d less within = absurd (omega arith)
 before_at before (y ∷ ys) a zero (suc j) d less within = before_each before y ys (get_or ys j d) (in_at_place ys j d (omega arith)) a.0
@@ -51,13 +51,13 @@ all_before : {X : Type 0} (before : X → X → Bool) (x : X) (ys : List X) → 
 all_before before x [] h = tt
 all_before before x (y ∷ ys) h = (h zero y (omega arith), all_before before x ys (λ k d within. h (suc k) d (omega arith)))
 
-ascending_from_pairs : {X : Type 0} (before : X → X → Bool) (ys : List X) → ((i j : ℕ) (d : X) → i < j → j < length ys → before (get_or ys i d) (get_or ys j d) ≡ true) → IsAscending before ys
+pub ascending_from_pairs : {X : Type 0} (before : X → X → Bool) (ys : List X) → ((i j : ℕ) (d : X) → i < j → j < length ys → before (get_or ys i d) (get_or ys j d) ≡ true) → IsAscending before ys
 ascending_from_pairs before [] h = tt
 ascending_from_pairs before (y ∷ ys) h =
     (all_before before y ys (λ k d within. h zero (suc k) d (omega arith) (omega arith)), ascending_from_pairs before ys (λ i j d less within. h (suc i) (suc j) d (omega arith) (omega arith)))
 
 -- in an ascending list an element has one place
-one_place : {X : Type 0} (before : X → X → Bool) → IsStrict before → (ys : List X) → IsAscending before ys → (i k : ℕ) (d : X) → i < length ys → k < length ys → get_or ys i d ≡ get_or ys k d → i ≡ k
+pub one_place : {X : Type 0} (before : X → X → Bool) → IsStrict before → (ys : List X) → IsAscending before ys → (i k : ℕ) (d : X) → i < length ys → k < length ys → get_or ys i d ≡ get_or ys k d → i ≡ k
 one_place {X} before strict ys a i k d within_i within_k same =
     elim (cases_order i k) [
       | inl e ↦ e
@@ -67,7 +67,7 @@ one_place {X} before strict ys a i k d within_i within_k same =
       ]
     ]
 
-keeps : {X : Type 0} (test : X → Bool) (x : X) (ys : List X) → test x ≡ true → In x ys → In x (filter test ys)
+pub keeps : {X : Type 0} (test : X → Bool) (x : X) (ys : List X) → test x ≡ true → In x ys → In x (filter test ys)
 keeps test x [] e i = absurd i
 keeps {X} test x (y ∷ ys) e (inl s) =
     cond_both (test y) _ _ (In x) (λ _. inl s) (λ no. absurd (false≢true (sym no ∙ ap test s ∙ e)))

@@ -17,6 +17,7 @@ pub mod OpeningLaws
 pub mod ListLaws
 pub mod MomentLaws
 pub mod DomainLaws
+pub mod GroupLaws
 pub use Rattle.pf_geom.specs.Position
 pub use Rattle.pf_geom.specs.Bounds
 pub use Rattle.pf_geom.specs.Octant

@@ -8,6 +8,7 @@ mod entry;
 mod ess_tree;
 mod field;
 mod grid;
+mod group_laws;
 mod item;
 mod least_box;
 mod limits;
@@ -29,6 +30,11 @@ pub use entry::Entry;
 pub use ess_tree::{EssTree, Terms};
 pub use field::Field;
 pub use grid::Grid;
+pub use group_laws::{
+    boxes_are_least, boxes_ignore_order, each_is_in_one_group, group_cells_are_ordered,
+    group_levels_are_least, groups_ignore_order, groups_of_one_are_one_place,
+    members_share_their_group, positions_share_their_group,
+};
 pub use item::Item;
 pub use least_box::box_of;
 pub use limits::{MOST_GROUP, MOST_PARTICLES, MOST_RANKS};
