@@ -16,6 +16,3 @@ pub use gate::{Gate, Open, Phase};
 pub use mem_store::{MemFile, MemStore};
 pub use store::{Store, StoreErr};
 pub use transfer::{ReadFault, WriteFault, read_all, write_all};
-
-#[cfg(test)]
-mod tests;

@@ -1,8 +1,7 @@
 ghost use Rattle.std.specs.Prelude.{◌<◌};
 
-use super::*;
+use pf_io::{MemFile, MemStore, ReadFault, Store, read_all, write_all};
 use std::alloc::Global;
-use std::fs;
 use std::test::Fail;
 
 fn file(alloc: Global, name: &str, bytes: &[u8]) -> Result<MemFile, Fail> {
@@ -106,47 +105,4 @@ fn the_numbered_call_fails(rt: HostRuntime) -> Result<(), Fail> {
         assert_eq!(rt; failing(&mut store), *want, "call {k}");
     }
     Ok(())
-}
-
-#[test]
-fn decimals_of_the_extremes(rt: HostRuntime) -> Result<(), Fail> {
-    let mut out = Vec::new(rt.alloc());
-    for n in [i128::MIN, -1, 0, i128::MAX] {
-        push_decimal(&mut out, n)?;
-        out.push(b' ')?;
-    }
-    let want =
-        "-170141183460469231731687303715884105728 -1 0 170141183460469231731687303715884105727 ";
-    assert_eq!(rt; out.as_slice(), want.as_bytes());
-    Ok(())
-}
-
-#[test]
-fn a_real_file_is_written_and_read_back(rt: HostRuntime) -> Result<(), Fail> {
-    let name = "pf_io_written_and_read_back.txt";
-    let alloc = rt.alloc();
-    let mut store = FileStore::new(&rt);
-    let missing = read_all(alloc, &mut store, name, 100);
-    assert!(rt; matches!(&missing, Err(ReadFault::CannotOpen)));
-    store.create(name)?;
-    write_all(&mut store, b"hello ")?;
-    write_all(&mut store, b"world")?;
-    assert_eq!(rt;
-        read_all(alloc, &mut store, name, 11)?.as_slice(),
-        b"hello world".as_slice()
-    );
-    let longer = read_all(alloc, &mut store, name, 10);
-    assert!(rt; matches!(&longer, Err(ReadFault::TooLarge)));
-    store.say(b"said\n")?;
-    fs::remove_file(&rt, name)?;
-    Ok(())
-}
-
-fn passed_by<G: Gate>(gate: &G) {
-    gate.pass(0, Phase::Leave);
-}
-
-#[test]
-fn the_open_gate_holds_nobody() {
-    passed_by(&Open);
 }

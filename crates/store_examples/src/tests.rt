@@ -1,0 +1,4 @@
+mod decimals;
+mod files;
+mod gates;
+mod memory;
