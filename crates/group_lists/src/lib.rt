@@ -10,6 +10,3 @@ mod scan;
 
 pub use gather::Gather;
 pub use lists::{HasLists, Lists};
-
-#[cfg(test)]
-mod tests;

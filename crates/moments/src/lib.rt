@@ -9,6 +9,3 @@ mod source;
 pub use moment::{merge, of_one};
 pub use prefix::{Prefix, prefix_of};
 pub use source::{centre, item};
-
-#[cfg(test)]
-mod tests;

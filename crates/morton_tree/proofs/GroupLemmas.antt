@@ -3,7 +3,7 @@ use Rattle.std.proofs.Common.{◌≡◌, ℕ, ◌+◌, ◌-◌, ◌<◌, ◌≤�
 use Rattle.std.specs.List.{All, Contains}
 use Rattle.std.specs.List.Sorted.{IsPartitionPoint}
 use Rattle.std.proofs.lemmas.Bool.{cases_lt, ltb-true, ltb-false, lt-ltb, le-ltb, not-true, not-false}
-use Rattle.std.proofs.lemmas.List.{length-take, length-drop, get_or-take, get_or-drop, get_or_default, map-append}
+use Rattle.std.proofs.lemmas.List.{length-take, length-drop, get_or-take, get_or-drop, get_or_default, map-append, length_push}
 use Rattle.std.proofs.lemmas.List.Elements.{All-contains, All-nil, All-push, filter_passes}
 use Rattle.std.proofs.lemmas.List.Sums.{count_by-le-length}
 use Rattle.pf_geom.specs.Octant.{Octant}
@@ -130,12 +130,13 @@ follow_push start end (t ∷ spans) s h at_end = (h.0, follow_push (start + t.le
 -- groups of all particles below a place, none of which is cut there
 pub record IsGroupedBelow (limit : ℕ) (js : List Particle) (place : ℕ) (gs : List Group) : Type 0 where
   pub within : place ≤ length js
+  pub few : length gs ≤ place
   pub in_turn : FollowOneAnother 0 place (map (λ g. g.span) gs)
   pub made : All (IsMade limit js) gs
   pub uncut : IsUncut limit js place
 
 pub none_grouped : (limit : ℕ) (js : List Particle) → IsGroupedBelow limit js 0 []
-none_grouped limit js = record { within = omega arith; in_turn = refl; made = All-nil (IsMade limit js); uncut = λ i k d less least within same. absurd (omega arith) }
+none_grouped limit js = record { within = omega arith; few = omega arith; in_turn = refl; made = All-nil (IsMade limit js); uncut = λ i k d less least within same. absurd (omega arith) }
 
 -- the group of the particle at the place is the next
 pub group_more : (limit : ℕ) (js : List Particle) (place : ℕ) (gs more : List Group) (j : Particle) (g : Group) → IsInKeyOrder js → place < length js → get_or js place j ≡ j → IsGroupedBelow limit js place gs →
@@ -147,8 +148,11 @@ group_more limit js place gs more j g ordered inside here before is pushed =
     let first : g.span.first ≡ place = ap (λ (s : Span). s.first) span ∙ begins in
     let made = IsMade-from_cell limit js j g ordered (place, inside, here) is in
     let fits = made.group.inside in
+    let some = made.group.some in
+    let few = before.few in
     subst (IsGroupedBelow limit js (place + g.span.len)) (sym pushed) (record {
       within = omega arith;
+      few = (let long = length_push gs g in omega arith);
       in_turn = subst (FollowOneAnother 0 (place + g.span.len)) (sym (map-append (λ (h : Group). h.span) gs (g ∷ []))) (follow_push 0 place (map (λ h. h.span) gs) g.span before.in_turn first);
       made = All-push (IsMade limit js) gs g before.made made;
       uncut = subst (λ (n : ℕ). IsUncut limit js (place + n)) (sym (ap (λ (s : Span). s.len) span)) (uncut_after limit js place j ordered before.uncut begins);

@@ -23,6 +23,7 @@ impl Tree {
         ensures value { IfOk result (λ groups. groups.items ≡ groups_of limit self.now.built) }
         ensures in_turn { IfOk result (λ groups. FollowOneAnother 0 (length self.now.built) (map (λ g. g.span) groups.items)) }
         ensures each { IfOk result (λ groups. All (IsGroup limit self.now.built) groups.items) }
+        ensures few { IfOk result (λ groups. length groups.items ≤ length self.now.built) }
     {
         let bodies = self.bodies();
         let mut groups = Vec::new(alloc);

@@ -11,6 +11,3 @@ mod tree;
 pub use group::Group;
 pub use span::Span;
 pub use tree::Tree;
-
-#[cfg(test)]
-mod tests;

@@ -5,6 +5,3 @@
 mod test;
 
 pub use test::passes;
-
-#[cfg(test)]
-mod tests;

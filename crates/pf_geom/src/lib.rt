@@ -24,6 +24,3 @@ pub use laws::{
     gaps_vanish_where_shared, keys_are_distinct, keys_interleave, positions_have_cells, positions_share_lower_cells,
 };
 pub use point::{Point, point_at};
-
-#[cfg(test)]
-mod tests;

@@ -48,6 +48,3 @@ pub use plain_group::slow_group;
 pub use plain_list::slow_list;
 pub use steps::Steps;
 pub use theta::Theta;
-
-#[cfg(test)]
-mod tests;

@@ -46,37 +46,3 @@ pub(crate) fn narrowed(value: i128) -> Result<i64, NumFault>
 {
     i64::try_from(value).or(Err(NumFault::Overflow))
 }
-
-#[cfg(test)]
-mod tests {
-    use super::*;
-
-    #[test]
-    fn limits_are_reached_and_not_passed(rt: HostRuntime) {
-        const MIN: i64 = i64::MIN;
-        const MAX: i64 = i64::MAX;
-        let overflow = Err(NumFault::Overflow);
-
-        assert_eq!(rt; checked_add(MAX, 1), overflow);
-        assert_eq!(rt; checked_add(MIN, -1), overflow);
-        assert_eq!(rt; checked_add(MIN, MAX), Ok(-1));
-
-        assert_eq!(rt; checked_sub(0, MIN), overflow);
-        assert_eq!(rt; checked_sub(MIN, 1), overflow);
-        assert_eq!(rt; checked_sub(-1, MIN), Ok(MAX));
-
-        assert_eq!(rt; checked_mul(1 << 32, 1 << 31), overflow);
-        assert_eq!(rt; checked_mul(1 << 32, -1 << 31), Ok(MIN));
-        assert_eq!(rt; checked_mul(MIN, -1), overflow);
-        assert_eq!(rt;
-            checked_mul(-3_037_000_499, -3_037_000_499),
-            Ok(9_223_372_030_926_249_001)
-        );
-        assert_eq!(rt; checked_mul(3_037_000_500, 3_037_000_500), overflow);
-
-        assert_eq!(rt; checked_neg(MIN), overflow);
-        assert_eq!(rt; checked_neg(MAX), Ok(-MAX));
-        assert_eq!(rt; checked_abs(MIN), overflow);
-        assert_eq!(rt; checked_abs(-MAX), Ok(MAX));
-    }
-}

@@ -66,26 +66,3 @@ fn joined(high: i128, low: u128) -> Result<i64, NumFault>
         Err(NumFault::Overflow)
     }
 }
-
-#[cfg(test)]
-mod tests {
-    use super::*;
-
-    #[test]
-    fn only_the_whole_sum_must_fit(rt: HostRuntime) {
-        const MIN: i64 = i64::MIN;
-        const MAX: i64 = i64::MAX;
-        let overflow = Err(NumFault::Overflow);
-
-        assert_eq!(rt; dot([3, -4, 5], [-2, 7, 1]), Ok(-29));
-        assert_eq!(rt; dot([MAX, MAX, 5], [MAX, -MAX, 1]), Ok(5));
-        // 2^126 - (2^126 - 2^63) is 2^63, one more than an i64 holds.
-        assert_eq!(rt; dot([MIN, MIN, 0], [MIN, MAX, 0]), overflow);
-        assert_eq!(rt; dot([MIN, MIN, 1], [MIN, MAX, -1]), Ok(MAX));
-        assert_eq!(rt; dot([MIN, MAX, 1], [MAX, MAX, -1]), Ok(MIN));
-        assert_eq!(rt; dot([MIN, MAX, 2], [MAX, MAX, -1]), overflow);
-        // The first two products are 2^127 together, and all three at most 3 * 2^126.
-        assert_eq!(rt; dot([MIN, MIN, MIN], [MIN, MIN, MAX]), overflow);
-        assert_eq!(rt; dot([MIN; 3], [MIN; 3]), overflow);
-    }
-}

@@ -29,21 +29,3 @@ impl<T: Drop> From<AllocFailed<T>> for OutOfMemory {
         OutOfMemory
     }
 }
-
-#[cfg(test)]
-mod tests {
-    use super::*;
-    use std::alloc::Global;
-
-    fn three_numbers(alloc: Global) -> Result<usize, OutOfMemory> {
-        let mut numbers = Vec::new(alloc);
-        numbers.push(1)?;
-        numbers.extend_from_slice(&[2, 3])?;
-        Ok(numbers.len())
-    }
-
-    #[test]
-    fn errors_of_growth_convert(rt: HostRuntime) {
-        assert_eq!(rt; three_numbers(rt.alloc()), Ok(3));
-    }
-}

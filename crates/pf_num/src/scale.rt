@@ -30,27 +30,3 @@ fn halved(x: i64, times: u32) -> i64
     let size = (x.unsigned_abs() >> times) as i64;
     if x < 0 { -size } else { size }
 }
-
-#[cfg(test)]
-mod tests {
-    use super::*;
-
-    #[test]
-    fn scales_change_by_powers_of_two(rt: HostRuntime) {
-        for (x, from, to, scaled) in [
-            (3, 20, 22, 12),
-            (1, 0, 62, 1 << 62),
-            (-2, 0, 62, i64::MIN),
-            (7, 1, 0, 3),
-            (-7, 1, 0, -3),
-            (-1, 62, 0, 0),
-            (i64::MAX, 62, 0, 1),
-            (i64::MIN, 62, 0, -2),
-            (i64::MIN, 5, 5, i64::MIN),
-        ] {
-            assert_eq!(rt; rescale(x, from, to), Ok(scaled), "{x} from {from} to {to}");
-        }
-        assert_eq!(rt; rescale(2, 0, 62), Err(NumFault::Overflow));
-        assert_eq!(rt; rescale(i64::MIN, 16, 17), Err(NumFault::Overflow));
-    }
-}

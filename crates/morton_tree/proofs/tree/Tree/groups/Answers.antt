@@ -44,5 +44,6 @@ returns c =
     record {
       value = groups_are c.args.limit js c.loop-place.groups.items c.bodies-bodies.ensures.tree.ordered grouped.made in_turn;
       in_turn = in_turn;
+      few = (let few = grouped.few in omega arith);
       each = All-weaker (IsMade c.args.limit js) (IsGroup c.args.limit js) (λ g h. h.group) c.loop-place.groups.items grouped.made;
     }

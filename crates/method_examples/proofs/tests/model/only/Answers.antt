@@ -1,7 +1,7 @@
 use Rattle.std.proofs.Common.{ℕ, ◌∷◌, []}
 use Rattle.std.specs.List.{IsDistinct}
 use Rattle.std.specs.Prelude.{nat_eq}
-use Rattle.pf_model.proofs.tests.only.Goals as goal
+use Rattle.method_examples.proofs.tests.model.only.Goals as goal
 
 one_differs : (n : ℕ) → IsDistinct nat_eq (n ∷ [])
 unfolding IsDistinct

@@ -1,6 +1,6 @@
 ghost use Rattle.std.specs.Prelude.{◌≡◌, ◌<◌};
 
-use super::*;
+use opening_test::passes;
 use pf_geom::{Box3, Cell, Edge, Point, point_at};
 use pf_model::{Steps, Theta};
 use std::marker::Brand;

@@ -1,4 +1,6 @@
-use super::*;
+use pf_geom::{
+    Box3, Cell, Point, cell_of, contains, corner, gap2, gap2_round, key_of, point_at, side, widen,
+};
 use std::test::Fail;
 
 const LAST: u32 = (1 << 30) - 1;

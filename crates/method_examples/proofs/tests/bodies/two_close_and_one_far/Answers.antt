@@ -1,7 +1,7 @@
 use Rattle.std.proofs.Common.{◌∷◌, [], refl}
 use Rattle.std.specs.List.{IsDistinct}
 use Rattle.std.specs.Prelude.{nat_eq}
-use Rattle.pf_model.proofs.tests.two_close_and_one_far.Goals as goal
+use Rattle.method_examples.proofs.tests.bodies.two_close_and_one_far.Goals as goal
 
 one_two_three : IsDistinct nat_eq (1 ∷ 2 ∷ 3 ∷ [])
 unfolding IsDistinct

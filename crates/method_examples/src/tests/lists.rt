@@ -1,10 +1,10 @@
-ghost use Rattle.std.specs.Prelude.{◌≡◌, ◌^◌, ◌<◌, length, pos, replicate};
-ghost use Rattle.pf_model.specs.Particle.{IsMass};
+ghost use Rattle.std.specs.Prelude.{◌≡◌, ◌<◌, length};
 ghost use Rattle.pf_model.specs.Division.{rank_count};
 
-use super::*;
+use super::bodies::{body, two_close_and_one_far};
+use group_lists::{Gather, HasLists, Lists};
 use morton_tree::Tree;
-use pf_geom::{Edge, Point};
+use pf_geom::Edge;
 use pf_model::{Body, Entry, Steps, Terms, Theta, lone_ranks_have_all};
 use pf_num::OutOfMemory;
 use std::alloc::Global;
@@ -12,21 +12,6 @@ use std::marker::Brand;
 use std::sync::ledger::{Blank, Ledger};
 use std::test::Fail;
 use std::thread::Threads;
-
-// A particle at rest on the x axis.
-fn body(id: u32, x: u32, mass: u32) -> Body
-    requires in_cube { x < 2 ^ 30 }
-    requires heavy { IsMass mass }
-    ensures { result ≡ record { id = id; at = record { x = x; y = 0; z = 0 }; vel = replicate 3 (pos 0); mass = mass; attr = replicate 8 (pos 0) } }
-{
-    Body {
-        id,
-        at: Point { x, y: 0, z: 0 },
-        vel: [0; 3],
-        mass,
-        attr: [0; 8],
-    }
-}
 
 // Whether an entry is this cell with a moment of this count, mass and weighted sum along x.
 fn is_cell(entry: &Entry, level: u32, key: u128, count: u32, mass: u64, weighted: u128) -> bool {
@@ -83,7 +68,7 @@ fn entries_of<H: HasLists>(has: &H, group: u32) -> &[Entry]
 
 #[test]
 fn cells_far_enough_stand_for_their_bodies(rt: HostRuntime) -> Result<(), Fail> {
-    let bodies = [body(1, 0, 1), body(2, 1048576, 1), body(3, 1048581, 3)];
+    let bodies = two_close_and_one_far();
     let t = Theta {
         a: 1,
         b: 1,

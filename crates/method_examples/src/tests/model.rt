@@ -1,37 +1,16 @@
-ghost use Rattle.std.specs.Prelude.{◌≡◌, ◌-◌, ◌*◌, ◌^◌, ◌<◌, ◌≤◌, ◌∷◌, [], map};
-ghost use Rattle.pf_model.specs.Particle.{Particle, IsMass};
+ghost use Rattle.std.specs.Prelude.{◌≡◌, ◌*◌, ◌-◌, ◌^◌, ◌<◌, ◌≤◌, [], ◌∷◌};
 ghost use Rattle.pf_model.specs.Particles.{HaveDistinctIds};
+ghost use Rattle.method_examples.specs.Resting.{resting};
 
-use super::*;
+use super::bodies::{body, two_close_and_one_far};
 use pf_geom::{Box3, Cell, Edge, Point};
+use pf_model::{Body, Entry, Moment, Theta, slow_group, slow_list};
 use std::test::Fail;
-
-fn body(id: u32, x: u32, mass: u32) -> Body
-    requires in_cube { x < 2 ^ 30 }
-    requires heavy { IsMass mass }
-    ensures { result.id ≡ id }
-{
-    Body {
-        id,
-        at: Point { x, y: 0, z: 0 },
-        vel: [0; 3],
-        mass,
-        attr: [0; 8],
-    }
-}
-
-// Three bodies on the x axis, two of them close together.
-fn two_close_and_one_far() -> [Body; 3]
-    ensures ids { map (λ j. j.id) result ≡ 1 ∷ 2 ∷ 3 ∷ [] }
-    ensures distinct { HaveDistinctIds result }
-{
-    [body(1, 0, 1), body(2, 1048576, 1), body(3, 1048581, 3)]
-}
 
 // One body alone.
 fn only(id: u32, x: u32) -> [Body; 1]
     requires { x < 2 ^ 30 }
-    ensures ids { map (λ j. j.id) result ≡ id ∷ [] }
+    ensures value { result ≡ resting id x 1 ∷ [] }
     ensures distinct { HaveDistinctIds result }
 {
     [body(id, x, 1)]

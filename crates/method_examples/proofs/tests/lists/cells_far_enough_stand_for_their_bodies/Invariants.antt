@@ -1,18 +1,11 @@
-use Rattle.std.proofs.Common.{ℕ, [], ◌∷◌, List, pos, replicate, refl, lit≤}
+use Rattle.std.proofs.Common.{refl, lit≤}
 use Rattle.std.specs.List.{IsDistinct}
 use Rattle.pf_geom.specs.declared.edge.Edge.TheVariants.{Open}
-use Rattle.pf_model.specs.Particle.{Particle}
 use Rattle.pf_model.specs.Particles.{HaveDistinctIds}
-use Rattle.group_lists.proofs.tests.cells_far_enough_stand_for_their_bodies.Given as goal
+use Rattle.method_examples.specs.Resting.{two_close_and_one_far}
+use Rattle.method_examples.proofs.tests.lists.cells_far_enough_stand_for_their_bodies.Given as goal
 
--- the particles of the test
-abbrev pub resting : ℕ → ℕ → ℕ → Particle
-resting id x mass = record { id = id; at = record { x = x; y = 0; z = 0 }; vel = replicate 3 (pos 0); mass = mass; attr = replicate 8 (pos 0) }
-
-abbrev pub three : List Particle
-three = resting 1 0 1 ∷ resting 2 1048576 1 ∷ resting 3 1048581 3 ∷ []
-
-pub three_differ : HaveDistinctIds three
+pub three_differ : HaveDistinctIds two_close_and_one_far
 unfolding IsDistinct
 three_differ = ((refl, (refl, tt)), ((refl, tt), (tt, tt)))
 
@@ -21,7 +14,7 @@ ghosts-lists_of-L-Ledger g a = record { name = a.blank.name; parts = a.blank.par
 
 abbrev pub ghosts-lists_of-T-Terms : goal.ghosts-lists_of-T-Terms
 ghosts-lists_of-T-Terms g a = record {
-  particles = three;
+  particles = two_close_and_one_far;
   are_bodies = record { few = lit≤ tt; distinct = three_differ };
   grid = record { nx = 1; ny = 1; nz = 1 };
   is_division = record { some_x = lit≤ tt; some_y = lit≤ tt; some_z = lit≤ tt; few = lit≤ tt };

@@ -3,7 +3,7 @@ use Rattle.std.specs.List.{IsDistinct}
 use Rattle.std.specs.Prelude.{nat_eq}
 use Rattle.std.proofs.lemmas.Bool.{ne_eqb}
 use Rattle.pf_model.specs.Particles.{HaveDistinctIds}
-use Rattle.morton_tree.proofs.tests.tree_of.Goals as goal
+use Rattle.method_examples.proofs.tests.trees.tree_of.Goals as goal
 
 three_differ : (a b c : ℕ) → a ≢ b → a ≢ c → b ≢ c → IsDistinct nat_eq (a ∷ b ∷ c ∷ [])
 unfolding IsDistinct

@@ -1,6 +1,6 @@
-ghost use Rattle.std.specs.Prelude.{◌≡◌, ◌+◌, ◌^◌, ◌<◌, ◌≤◌, IfOk, length};
+ghost use Rattle.std.specs.Prelude.{◌^◌, ◌<◌, ◌≤◌};
 
-use super::*;
+use moments::{centre, item, merge, of_one, prefix_of};
 use pf_geom::Point;
 use pf_model::{Body, Moment};
 use std::test::Fail;

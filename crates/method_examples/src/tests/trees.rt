@@ -1,8 +1,8 @@
 ghost use Rattle.std.specs.Prelude.{◌≡◌, ◌≢◌, ◌^◌, ◌<◌, ◌≤◌};
-ghost use Rattle.pf_model.specs.Particle.{IsMass};
 
-use super::*;
+use super::bodies::body;
 use moments::centre;
+use morton_tree::{Group, Span, Tree};
 use pf_geom::{Box3, Cell, Point};
 use pf_model::Body;
 use pf_num::OutOfMemory;
@@ -15,20 +15,6 @@ fn at(x: u32) -> Point
     ensures { result ≡ record { x = x; y = 0; z = 0 } }
 {
     Point { x, y: 0, z: 0 }
-}
-
-fn body(id: u32, x: u32, mass: u32) -> Body
-    requires in_cube { x < 2 ^ 30 }
-    requires heavy { IsMass mass }
-    ensures { result.id ≡ id }
-{
-    Body {
-        id,
-        at: at(x),
-        vel: [0; 3],
-        mass,
-        attr: [0; 8],
-    }
 }
 
 fn tree_of(

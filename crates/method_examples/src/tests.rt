@@ -1,0 +1,8 @@
+mod bodies;
+mod geometry;
+mod lists;
+mod model;
+mod numbers;
+mod opening;
+mod totals;
+mod trees;
