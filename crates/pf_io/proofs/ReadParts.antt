@@ -3,6 +3,7 @@ use Rattle.std.proofs.Common.{ℕ, ◌≡◌, ◌≤◌, take, drop, length, Lis
 use Rattle.std.proofs.lemmas.List.{take-append-drop}
 use Rattle.std.proofs.Math.Seq.{drop-append_seam}
 use Rattle.pf_io.specs.Store.{Told, after_open, after_read}
+use Rattle.pf_io.specs.Transfer.{ReadsPart}
 
 -- what a store tells, with this rest of its source
 abbrev pub with_unread : List ℕ → Told → Told
@@ -50,3 +51,9 @@ read_count None name bytes now n so_far count = so_far.unread
 read_count (Some t) name bytes now n so_far count = so_far.unread ∙ ap (λ (rest : List ℕ). Some (with_unread rest t)) (sym dropped) where
   dropped : drop n (unwrap_or (t.files name) []) ≡ so_far.rest
   dropped = rw (so_far.parts, ← count) (drop-append_seam bytes so_far.rest)
+
+-- which is a part of it, also where the next call tells the same
+pub part_read : (before : Option Told) (name bytes : List ℕ) (mid now : Option Told) (most : ℕ)
+    → IsReadSoFar before name bytes mid → length bytes ≤ most → now ≡ mid → ReadsPart name most before now
+part_read before name bytes mid now most so_far few same =
+    (length bytes, few, same ∙ read_count before name bytes mid (length bytes) so_far refl)

@@ -1,6 +1,6 @@
 -- What reading a whole file and writing a whole piece do to a store.
-use Rattle.std.specs.Prelude.{◌≡◌, [], Bool, true, IsTrue, Option, option_map, Result, Ok, Err}
-use Rattle.pf_io.specs.Store.{Told, Faults, one_more_open, one_more_read, one_more_write}
+use Rattle.std.specs.Prelude.{ℕ, ◌≡◌, ◌≤◌, List, [], Bool, true, IsTrue, Option, option_map, Result, Ok, Err}
+use Rattle.pf_io.specs.Store.{Told, Faults, after_open, after_read, one_more_open, one_more_read, one_more_write}
 use Rattle.pf_io.specs.declared.transfer.ReadFault.{ReadFault}
 use Rattle.pf_io.specs.declared.transfer.ReadFault.TheVariants.{CannotOpen, ReadFailed, TooLarge, Memory}
 use Rattle.pf_io.specs.declared.transfer.WriteFault.{WriteFault}
@@ -13,6 +13,10 @@ without_unread t = record t { unread = [] }
 -- a store tells the same before and after, but for the unread rest of its source
 abbrev pub IsSameButUnread : Option Told → Option Told → Type 0
 IsSameButUnread before after = option_map without_unread after ≡ option_map without_unread before
+
+-- the named file was opened, and at most that many of its bytes were read
+abbrev pub ReadsPart : List ℕ → ℕ → Option Told → Option Told → Type 0
+ReadsPart name most before after = (n : ℕ) × (n ≤ most) × (after ≡ option_map (λ t. after_read n (after_open name t)) before)
 
 -- whether there is a source before and after an answer of `read_all`
 abbrev pub HasSourceAfter : {A : Type 0} → Result A ReadFault → Bool → Bool → Type 0

@@ -3,21 +3,21 @@ ghost use Rattle.pf_io.specs.FileStore.{nothing_open};
 
 use crate::fault_counts::FaultCounts;
 use crate::store::{Store, StoreErr};
-use std::fs::File;
-use std::io::{Error, ErrorKind, Read, Write};
+use crate::system::{NamedFile, refusal};
 use std::marker::Model;
 use std::rt::Files;
 
 /// The system's files, by their paths from the working directory, and the standard output for what is said.
+/// Where a call of the system fails, its words go to the standard error, after the name of the file.
 #[derive(Drop)]
-pub struct FileStore<R: Files + Print + Drop> {
+pub struct FileStore<R: Files + Print + Eprint + AllocGlobal + Drop> {
     rt: R,
-    source: Option<R::File>,
-    sink: Option<R::File>,
+    source: Option<NamedFile<R::File>>,
+    sink: Option<NamedFile<R::File>>,
     faults: FaultCounts,
 }
 
-impl<R: Files + Print + Drop> Model for FileStore<R> {
+impl<R: Files + Print + Eprint + AllocGlobal + Drop> Model for FileStore<R> {
     ghost use Rattle.std.specs.Prelude.{is_some};
     ghost use Rattle.pf_io.specs.FileStore.{OpenFiles};
 
@@ -26,7 +26,7 @@ impl<R: Files + Print + Drop> Model for FileStore<R> {
     ghost view = { λ s. record { has_source = is_some s.source; has_sink = is_some s.sink; faults = s.faults } };
 }
 
-impl<R: Files + Print + Drop> FileStore<R> {
+impl<R: Files + Print + Eprint + AllocGlobal + Drop> FileStore<R> {
     /// A store with nothing open, whose files and output are those of the runtime.
     pub fn new(rt: R) -> FileStore<R>
         ensures { result ≡ nothing_open }
@@ -40,15 +40,7 @@ impl<R: Files + Print + Drop> FileStore<R> {
     }
 }
 
-/// Why the system refused.
-fn store_err(error: Error) -> StoreErr {
-    match error.kind() {
-        ErrorKind::OutOfMemory => StoreErr::Memory,
-        _ => StoreErr::Failed,
-    }
-}
-
-impl<R: Files + Print + Drop> Store for FileStore<R> {
+impl<R: Files + Print + Eprint + AllocGlobal + Drop> Store for FileStore<R> {
     ghost told = { λ _. None };
 
     ghost has_source = { λ s. s.has_source };
@@ -60,7 +52,7 @@ impl<R: Files + Print + Drop> Store for FileStore<R> {
     ghost is_steady = { λ _. false };
 
     fn open(&mut self, name: &str) -> Result<(), StoreErr> {
-        match File::open(&self.rt, name).map_err(store_err) {
+        match NamedFile::open(&self.rt, name) {
             Ok(file) => {
                 self.source = Some(file);
                 Ok(())
@@ -76,7 +68,7 @@ impl<R: Files + Print + Drop> Store for FileStore<R> {
 
     fn read(&mut self, buf: &mut [u8]) -> Result<usize, StoreErr> {
         let outcome = match &mut self.source {
-            Some(file) => file.read(buf).map_err(store_err),
+            Some(file) => file.read(&self.rt, buf),
             None => Err(StoreErr::Failed),
         };
         if outcome == Err(StoreErr::Failed) {
@@ -86,7 +78,7 @@ impl<R: Files + Print + Drop> Store for FileStore<R> {
     }
 
     fn create(&mut self, name: &str) -> Result<(), StoreErr> {
-        match File::create(&self.rt, name).map_err(store_err) {
+        match NamedFile::create(&self.rt, name) {
             Ok(file) => {
                 self.sink = Some(file);
                 Ok(())
@@ -102,11 +94,7 @@ impl<R: Files + Print + Drop> Store for FileStore<R> {
 
     fn write(&mut self, piece: &[u8]) -> Result<usize, StoreErr> {
         let outcome = match &mut self.sink {
-            Some(file) => match file.write(piece) {
-                Ok(0) if !piece.is_empty() => Err(StoreErr::Failed),
-                Ok(n) => Ok(n),
-                Err(error) => Err(store_err(error)),
-            },
+            Some(file) => file.write(&self.rt, piece),
             None => Err(StoreErr::Failed),
         };
         if outcome == Err(StoreErr::Failed) {
@@ -116,7 +104,8 @@ impl<R: Files + Print + Drop> Store for FileStore<R> {
     }
 
     fn say(&mut self, text: &[u8]) -> Result<(), StoreErr> {
-        let outcome = self.rt.write_all(text).map_err(store_err);
+        // The runtime makes an interrupted call again by itself.
+        let outcome = self.rt.write_all(text).map_err(|error| refusal(&self.rt, "standard output", error));
         if outcome == Err(StoreErr::Failed) {
             self.faults.count_say();
         }

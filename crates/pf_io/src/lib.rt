@@ -8,6 +8,7 @@ mod file_store;
 mod gate;
 mod mem_store;
 mod store;
+mod system;
 mod transfer;
 
 pub use decimal::push_decimal;

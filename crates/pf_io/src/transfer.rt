@@ -1,6 +1,6 @@
-ghost use Rattle.std.specs.Prelude.{ℕ, ◌≡◌, ◌≢◌, ◌+◌, ◌-◌, ◌<◌, ◌≤◌, ◌^◌, [], take, length, Some, None, option_map, false, IfOk, IfSome, IsSome, IsSomeAnd, OnOk, OnErr, IsTrue};
+ghost use Rattle.std.specs.Prelude.{ℕ, ◌≡◌, ◌≢◌, ◌+◌, ◌-◌, ◌<◌, ◌≤◌, ◌^◌, ◌⊎◌, [], take, length, Some, None, option_map, false, IfOk, IfSome, IsSome, IsSomeAnd, OnOk, OnErr, IsTrue};
 ghost use Rattle.pf_io.specs.Store.{after_open, after_read, after_write};
-ghost use Rattle.pf_io.specs.Transfer.{IsSameButUnread, HasSourceAfter, read_all_counted, write_all_counted};
+ghost use Rattle.pf_io.specs.Transfer.{IsSameButUnread, ReadsPart, HasSourceAfter, read_all_counted, write_all_counted};
 
 use crate::store::{Store, StoreErr};
 use std::alloc::Global;
@@ -49,10 +49,17 @@ pub fn read_all<S: Store>(
     ensures within { IfOk result (λ v. length v.items ≤ limit) }
     // The source was read to its end.
     ensures end { OnOk result (IfSome (S.told store.new) (λ t. t.unread ≡ [])) }
+    ensures all_read { IfOk result (λ v. S.told store.new
+        ≡ option_map (λ t. after_read (length v.items) (after_open name.now t)) (S.told store.old)) }
     ensures too_large { result ≡ Err ReadFault.TooLarge
         → IfSome (S.told store.old) (λ t. IsSomeAnd (t.files name.now) (λ bytes. limit < length bytes)) }
     ensures one_more_read { result ≡ Err ReadFault.TooLarge
         → S.told store.new ≡ option_map (λ t. after_read (limit + 1) (after_open name.now t)) (S.told store.old) }
+    // No other answer comes after so many bytes.
+    ensures part_read { result ≡ Err ReadFault.ReadFailed
+        → ReadsPart name.now limit (S.told store.old) (S.told store.new) }
+    ensures part_kept { result ≡ Err ReadFault.Memory
+        → (S.told store.new ≡ S.told store.old) ⊎ ReadsPart name.now limit (S.told store.old) (S.told store.new) }
     ensures there { result ≡ Err ReadFault.ReadFailed → IfSome (S.told store.old) (λ t. IsSome (t.files name.now)) }
 
     ensures kept { IsSameButUnread (S.told store.old) (S.told store.new) }

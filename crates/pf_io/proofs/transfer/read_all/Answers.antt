@@ -1,6 +1,6 @@
-use Rattle.std.proofs.Common.{rules, arith}
+use Rattle.std.proofs.Common.{inr, refl, rules, arith}
 use Rattle.std.proofs.lemmas.Grind.{common_steps}
-use Rattle.pf_io.proofs.ReadParts.{opened, read_on, read_count}
+use Rattle.pf_io.proofs.ReadParts.{opened, read_on, read_count, part_read}
 use Rattle.pf_io.proofs.transfer.read_all.Goals as goal
 
 pub loop-n-init : goal.loop-n-init
@@ -32,3 +32,17 @@ pub returns-then-len-n-clause-one_more_read : goal.returns-then-len-n-clause-one
 returns-then-len-n-clause-one_more_read g c = λ _.
     let so_far = read_on _ _ _ _ _ _ _ c.loop-n.invariant.so_far c.in-Ok-read.ensures.bytes c.in-Ok-read.ensures.taken in
     read_count _ _ _ _ _ so_far (grind (arith, common_steps))
+
+pub returns-then-n-eq0-clause-all_read : goal.returns-then-n-eq0-clause-all_read
+returns-then-n-eq0-clause-all_read g c =
+    let so_far = read_on _ _ _ _ _ _ _ c.loop-n.invariant.so_far c.in-Ok-read.ensures.bytes c.in-Ok-read.ensures.taken in
+    read_count _ _ _ _ _ so_far (grind (arith, common_steps))
+
+pub returns-in-Err-Memory-read-clause-part_kept : goal.returns-in-Err-Memory-read-clause-part_kept
+returns-in-Err-Memory-read-clause-part_kept g c = λ _.
+    inr (part_read _ _ _ _ _ _ c.loop-n.invariant.so_far c.loop-n.invariant.within c.in-Err-Memory-read.ensures.err)
+
+pub returns-then-is_err-clause-part_kept : goal.returns-then-is_err-clause-part_kept
+returns-then-is_err-clause-part_kept g c = λ _.
+    let so_far = read_on _ _ _ _ _ _ _ c.loop-n.invariant.so_far c.in-Ok-read.ensures.bytes c.in-Ok-read.ensures.taken in
+    inr (part_read _ _ _ _ _ _ so_far (grind (arith, common_steps)) refl)
