@@ -4,3 +4,4 @@ pub mod FieldLemmas
 pub mod NumberLemmas
 pub mod WrittenLemmas
 pub mod DecimalLemmas
+pub mod FoundLemmas

@@ -9,7 +9,7 @@ mod lines;
 mod number;
 
 pub use fields::Fields;
-pub use laws::{numbers_read_back, written_lines_read_back};
+pub use laws::{numbers_are_found, numbers_read_back, written_lines_read_back};
 pub use line::Line;
 pub use lines::Lines;
 pub use number::{NumberFault, digits_in, integer_in};
