@@ -1,0 +1,6 @@
+pub mod Expressions
+pub mod Names
+pub mod Operators
+pub mod Pair
+pub mod Stops
+pub mod Values
