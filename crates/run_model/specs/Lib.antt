@@ -1,1 +1,2 @@
 pub mod StepText
+pub mod Leapfrog

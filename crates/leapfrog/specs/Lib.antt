@@ -1,0 +1,2 @@
+pub mod Refusal
+pub use Rattle.run_model.specs.Leapfrog
