@@ -5,4 +5,5 @@ pub mod NodeEquations
 pub mod OneAnswer
 pub mod Shapes
 pub mod StmtLaws
+pub mod LimitLaws
 pub mod Unrolling

@@ -4,3 +4,4 @@ pub mod Nodes
 pub mod OneAnswer
 pub mod Parsed
 pub mod Rules
+pub mod WithinLimits

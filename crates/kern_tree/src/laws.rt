@@ -1,4 +1,7 @@
 ghost use Rattle.kern_tree.specs.OneAnswer.{OneTree, OneAnswer};
+ghost use Rattle.kern_tree.specs.WithinLimits.{ParsedIsWithinLimits};
+
+use kern_token::tokens_stand_in_order;
 
 /// Tokens spell at most one kernel.
 pub fn one_tree()
@@ -9,3 +12,10 @@ pub fn one_tree()
 pub fn one_answer()
     ensures { OneAnswer }
 {}
+
+/// A kernel that parsing can give has literals that are i64s, scales in their limit and few nodes.
+pub fn parsed_kernels_are_within_limits()
+    ensures { ParsedIsWithinLimits }
+{
+    tokens_stand_in_order();
+}

@@ -6,6 +6,9 @@ mod tokens;
 mod trees;
 mod typing;
 
+ghost use Rattle.std.specs.Prelude.{IfOk};
+ghost use Rattle.kern_tree.specs.Parsed.{IsParsed};
+
 use kern_parse::parse;
 use kern_token::{KernFault, MOST_TEXT};
 use kern_tree::Kernel;
@@ -13,7 +16,9 @@ use std::alloc::Global;
 use std::process::Abort;
 
 // The kernel of a text, or the first fault of its tokens or of the grammar.
-fn read(rt: &impl Abort, alloc: Global, text: &str) -> Result<Kernel, KernFault> {
+fn read(rt: &impl Abort, alloc: Global, text: &str) -> Result<Kernel, KernFault>
+    ensures { IfOk result (λ kernel. IsParsed kernel) }
+{
     assert!(rt; text.len() <= MOST_TEXT);
     let toks = kern_token::tokens(alloc, text.as_bytes())?;
     parse(alloc, toks.as_slice())
