@@ -13,3 +13,6 @@ mod RankLemmas
 mod PermutationLemmas
 mod MemberLemmas
 mod GroupOrderLemmas
+mod LimitLemmas
+mod ListCellLemmas
+mod ReuseLemmas

@@ -79,7 +79,7 @@ list-ascends : (t : Criterion) (box : Bounds) (js : List Particle) → IsAscendi
 unfolding list_of
 list-ascends t box js = IsAscending-in_order comes_before comes_before-strict (map (entry_of t box js) js)
 
-list-sound : (t : Criterion) (box : Bounds) (js : List Particle) (e : Entry) → In e (list_of t box js) → IsEntryOf t box js e js
+pub list-sound : (t : Criterion) (box : Bounds) (js : List Particle) (e : Entry) → In e (list_of t box js) → IsEntryOf t box js e js
 unfolding list_of
 list-sound t box js e i = entry_from_map t box js js e (in_from_in_order comes_before (map (entry_of t box js) js) e i)
 
@@ -154,7 +154,7 @@ same_entry_at t box js ks h j (Some level) =
     let c = cell_at j.at level in
     ap (Cell c) (moment_from_sums (filter (leads_to_cell t box c) js) (filter (leads_to_cell t box c) ks) (same_sums-filter (leads_to_cell t box c) js ks h))
 
-eqb_flips : (m n : ℕ) → nat_eq m n ≡ nat_eq n m
+pub eqb_flips : (m n : ℕ) → nat_eq m n ≡ nat_eq n m
 eqb_flips m n =
     elim (cases_eq m n) [
       | inl e ↦ eq-eqb m n e ∙ sym (eq-eqb n m (sym e))

@@ -49,14 +49,14 @@ add_nothing a = omega (arith, ints)
 pub attributes_of_one : (xs : List ℤ) → length xs ≡ 8 → xs ≡ (get_or xs 0 (pos 0) +ℤ pos 0) ∷ (get_or xs 1 (pos 0) +ℤ pos 0) ∷ (get_or xs 2 (pos 0) +ℤ pos 0) ∷ (get_or xs 3 (pos 0) +ℤ pos 0) ∷ (get_or xs 4 (pos 0) +ℤ pos 0) ∷ (get_or xs 5 (pos 0) +ℤ pos 0) ∷ (get_or xs 6 (pos 0) +ℤ pos 0) ∷ (get_or xs 7 (pos 0) +ℤ pos 0) ∷ []
 attributes_of_one xs p = simp add_nothing (eight_elements xs (pos 0) p)
 
-weighted_at : (most : ℕ) (ws : List ℕ) (k : ℕ) → All (λ w. w ≤ most) ws → get_or ws k 0 ≤ most
+pub weighted_at : (most : ℕ) (ws : List ℕ) (k : ℕ) → All (λ w. w ≤ most) ws → get_or ws k 0 ≤ most
 weighted_at most ws k all =
     elim (cases_lt k (length ws)) [
       | inl within ↦ all k 0 within
       | inr past ↦ rw (get_or_past ws k 0 past) (omega arith)
     ]
 
-three_of : (P : ℕ → Type 0) (a b c : ℕ) → P a → P b → P c → All P (a ∷ b ∷ c ∷ [])
+pub three_of : (P : ℕ → Type 0) (a b c : ℕ) → P a → P b → P c → All P (a ∷ b ∷ c ∷ [])
 three_of P a b c p q r = All-cons P a (b ∷ c ∷ []) p (All-cons P b (c ∷ []) q (All-cons P c [] r (All-nil P)))
 
 -- the limits of moments together

@@ -18,6 +18,8 @@ pub mod ListLaws
 pub mod MomentLaws
 pub mod DomainLaws
 pub mod GroupLaws
+pub mod ReuseLaws
+pub mod ParticleLaws
 pub use Rattle.pf_geom.specs.Position
 pub use Rattle.pf_geom.specs.Bounds
 pub use Rattle.pf_geom.specs.Octant

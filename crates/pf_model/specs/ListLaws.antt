@@ -1,13 +1,17 @@
 -- Laws of interaction lists.
 use Rattle.std.specs.Prelude.{◌≡◌, ℕ, ◌<◌, ◌≤◌, ◌↔◌, List, length, Some, None, Contains, IsPermutation, slice_index_or}
 use Rattle.pf_geom.specs.declared.cell.TheConstants.{DEEPEST}
-use Rattle.pf_geom.specs.Position.{Position}
-use Rattle.pf_geom.specs.Bounds.{Bounds}
-use Rattle.pf_geom.specs.Octant.{cell_at}
+use Rattle.pf_geom.specs.Position.{Position, IsPosition}
+use Rattle.pf_geom.specs.Bounds.{Bounds, IsBox, IsInBox}
+use Rattle.pf_geom.specs.Octant.{Octant, IsCell, cell_at, ancestor_at}
 use Rattle.pf_model.specs.declared.entry.Entry.{Entry}
+use Rattle.pf_model.specs.declared.entry.Entry.TheVariants.{Cell, One}
 use Rattle.pf_model.specs.Particle.{Particle}
 use Rattle.pf_model.specs.Particles.{HaveDistinctIds}
-use Rattle.pf_model.specs.Criterion.{Criterion, Passes}
+use Rattle.pf_model.specs.Criterion.{Criterion, IsCriterion, Passes}
+use Rattle.pf_model.specs.Totals.{Totals}
+use Rattle.pf_model.specs.Sums.{moment_of}
+use Rattle.pf_model.specs.Group.{particles_in}
 use Rattle.pf_model.specs.Interaction.{level_of, entry_of, IsInListOrder, list_of, members_of}
 
 -- the position's cell passes at this level, and at no lower one
@@ -46,3 +50,35 @@ EachIsInOneEntry =
 abbrev pub ListsIgnoreOrder : Type 0
 ListsIgnoreOrder =
     (t : Criterion) (box : Bounds) (js ks : List Particle) → HaveDistinctIds js → IsPermutation js ks → list_of t box js ≡ list_of t box ks
+
+-- a list is no longer than its particles
+abbrev pub ListsAreShort : Type 0
+ListsAreShort = (t : Criterion) (box : Bounds) (js : List Particle) → length (list_of t box js) ≤ length js
+
+-- the particles that lead to the first passing cell of a position are those in it
+abbrev pub FirstCellsHoldTheirMembers : Type 0
+FirstCellsHoldTheirMembers =
+    (t : Criterion) (box : Bounds) (p : Position) (level : ℕ) (js : List Particle) → IsFirstPassing t box p level →
+    members_of t box js (Cell (cell_at p level) (moment_of (particles_in (cell_at p level) js))) ≡ particles_in (cell_at p level) js
+
+-- the cell passes, and no cell above it does
+pub record IsFirstCell (t : Criterion) (box : Bounds) (c : Octant) : Type 0 where
+  pub passes : Passes box c t
+  pub lowest : (lower : ℕ) → lower < c.level → Passes box (ancestor_at c lower) t → ⊥
+
+-- a cell is in a list exactly where it passes, no cell above it does, and some particle lies in it; its members are
+-- all particles in it
+abbrev pub ListsHoldFirstCells : Type 0
+ListsHoldFirstCells =
+    (t : Criterion) (box : Bounds) (js : List Particle) (c : Octant) (m : Totals) → HaveDistinctIds js → IsCell c →
+    Contains (list_of t box js) (Cell c m) ↔ (IsFirstCell t box c × (1 ≤ length (particles_in c js)) × (m ≡ moment_of (particles_in c js)))
+
+-- a particle is in a list as itself exactly where none of its cells passes
+abbrev pub ListsHoldNearParticles : Type 0
+ListsHoldNearParticles =
+    (t : Criterion) (box : Bounds) (js : List Particle) (p : Particle) → HaveDistinctIds js →
+    Contains (list_of t box js) (One p) ↔ (Contains js p × NonePasses t box p.at)
+
+-- so is each that lies in the box
+abbrev pub ParticlesInTheBoxAreNear : Type 0
+ParticlesInTheBoxAreNear = (t : Criterion) (box : Bounds) (p : Position) → IsCriterion t → IsBox box → IsPosition p → IsInBox p box → NonePasses t box p

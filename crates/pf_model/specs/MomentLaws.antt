@@ -1,7 +1,9 @@
 -- Laws of moments.
-use Rattle.std.specs.Prelude.{◌≡◌, List, ◌++◌, IsPermutation}
-use Rattle.pf_model.specs.Particle.{Particle}
-use Rattle.pf_model.specs.Sums.{moment_of, together}
+use Rattle.std.specs.Prelude.{◌≡◌, ◌≤◌, List, ◌++◌, length, All, IsPermutation}
+use Rattle.pf_model.specs.declared.limits.TheConstants.{MOST_PARTICLES}
+use Rattle.pf_model.specs.Particle.{Particle, IsParticle}
+use Rattle.pf_model.specs.Totals.{Totals, IsTotals, IsSource}
+use Rattle.pf_model.specs.Sums.{moment_of, together, source_of}
 
 -- the moment of some particles and others is that of both together
 abbrev pub MomentsAddUp : Type 0
@@ -15,3 +17,11 @@ MomentsCancel =
 -- the order of particles changes nothing in their moment
 abbrev pub MomentsIgnoreOrder : Type 0
 MomentsIgnoreOrder = (js ks : List Particle) → IsPermutation js ks → moment_of js ≡ moment_of ks
+
+-- the moment of few particles that keep their limits keeps its own
+abbrev pub MomentsKeepTheirLimits : Type 0
+MomentsKeepTheirLimits = (js : List Particle) → length js ≤ MOST_PARTICLES → All IsParticle js → IsTotals (moment_of js)
+
+-- and where there is a particle, so does the source that they are
+abbrev pub SourcesKeepTheirLimits : Type 0
+SourcesKeepTheirLimits = (m : Totals) → 1 ≤ m.count → IsTotals m → IsSource (source_of m)

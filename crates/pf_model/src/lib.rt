@@ -16,8 +16,10 @@ mod list_laws;
 mod moment;
 mod moment_laws;
 mod opening_laws;
+mod particle_laws;
 mod plain_group;
 mod plain_list;
+mod reuse_laws;
 mod steps;
 mod theta;
 
@@ -39,12 +41,21 @@ pub use item::Item;
 pub use least_box::box_of;
 pub use limits::{MOST_GROUP, MOST_PARTICLES, MOST_RANKS};
 pub use list_laws::{
-    each_is_in_one_entry, levels_are_least, lists_hold_their_entries, lists_ignore_order,
+    each_is_in_one_entry, first_cells_hold_their_members, levels_are_least, lists_are_short,
+    lists_hold_first_cells, lists_hold_near_particles, lists_hold_their_entries,
+    lists_ignore_order, particles_in_the_box_are_near,
 };
 pub use moment::Moment;
-pub use moment_laws::{moments_add_up, moments_cancel, moments_ignore_order};
+pub use moment_laws::{
+    moments_add_up, moments_cancel, moments_ignore_order, moments_keep_their_limits,
+    sources_keep_their_limits,
+};
 pub use opening_laws::{cells_inside_pass, cells_pass_for_boxes_inside, passing_cells_lie_apart};
+pub use particle_laws::{
+    distinct_ids_ignore_order, particles_of_one_id_are_one, some_have_distinct_ids,
+};
 pub use plain_group::slow_group;
 pub use plain_list::slow_list;
+pub use reuse_laws::{kept_lists_begin_as_lists, present_begins_as_built};
 pub use steps::Steps;
 pub use theta::Theta;

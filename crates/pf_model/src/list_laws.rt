@@ -1,7 +1,10 @@
 // The laws of interaction lists, each the contract of a function that does nothing when it runs. A caller whose
 // proof needs a law calls its function.
 
-ghost use Rattle.pf_model.specs.ListLaws.{LevelsAreLeast, ListsHoldTheirEntries, EachIsInOneEntry, ListsIgnoreOrder};
+ghost use Rattle.pf_model.specs.ListLaws.{LevelsAreLeast, ListsHoldTheirEntries, EachIsInOneEntry, ListsIgnoreOrder, ListsAreShort, FirstCellsHoldTheirMembers, ListsHoldFirstCells, ListsHoldNearParticles, ParticlesInTheBoxAreNear};
+
+use crate::opening_laws::passing_cells_lie_apart;
+use pf_geom::{cells_of_a_position_nest, positions_have_cells, positions_share_lower_cells};
 
 /// The level of a position is the least at which its cell passes the opening test.
 pub fn levels_are_least()
@@ -22,3 +25,36 @@ pub fn each_is_in_one_entry()
 pub fn lists_ignore_order()
     ensures { ListsIgnoreOrder }
 {}
+
+/// A list is no longer than its particles.
+pub fn lists_are_short()
+    ensures { ListsAreShort }
+{}
+
+/// The particles that lead to the first passing cell of a position are those in it.
+pub fn first_cells_hold_their_members()
+    ensures { FirstCellsHoldTheirMembers }
+{
+    positions_share_lower_cells();
+}
+
+/// A list has the cells that pass under none that does and hold a particle, each with all its particles.
+pub fn lists_hold_first_cells()
+    ensures { ListsHoldFirstCells }
+{
+    cells_of_a_position_nest();
+    positions_share_lower_cells();
+}
+
+/// A list has those particles as themselves of which no cell passes.
+pub fn lists_hold_near_particles()
+    ensures { ListsHoldNearParticles }
+{}
+
+/// No cell of a position in the box passes.
+pub fn particles_in_the_box_are_near()
+    ensures { ParticlesInTheBoxAreNear }
+{
+    passing_cells_lie_apart();
+    positions_have_cells();
+}

@@ -1,7 +1,7 @@
 // The laws of moments, each the contract of a function that does nothing when it runs. A caller whose
 // proof needs a law calls its function.
 
-ghost use Rattle.pf_model.specs.MomentLaws.{MomentsAddUp, MomentsCancel, MomentsIgnoreOrder};
+ghost use Rattle.pf_model.specs.MomentLaws.{MomentsAddUp, MomentsCancel, MomentsIgnoreOrder, MomentsKeepTheirLimits, SourcesKeepTheirLimits};
 
 /// The moment of some particles and others is that of both together.
 pub fn moments_add_up()
@@ -16,4 +16,14 @@ pub fn moments_cancel()
 /// The order of particles changes nothing in their moment.
 pub fn moments_ignore_order()
     ensures { MomentsIgnoreOrder }
+{}
+
+/// The moment of few particles that keep their limits keeps its own.
+pub fn moments_keep_their_limits()
+    ensures { MomentsKeepTheirLimits }
+{}
+
+/// The source that some particles are keeps its limits.
+pub fn sources_keep_their_limits()
+    ensures { SourcesKeepTheirLimits }
 {}
