@@ -16,3 +16,6 @@ mod GroupOrderLemmas
 mod LimitLemmas
 mod ListCellLemmas
 mod ReuseLemmas
+mod CutLemmas
+mod DomainLemmas
+mod DomainOrderLemmas

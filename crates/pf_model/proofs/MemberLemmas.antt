@@ -61,3 +61,9 @@ all_from_contains P xs h k d within = h (get_or xs k d) (Contains-get_or xs k d 
 
 pub some_from_contains : {X : Type 0} (xs : List X) (x : X) → Contains xs x → 1 ≤ length xs
 some_from_contains xs x h = let within : h.0 < length xs = h.1 in omega arith
+
+-- the element at a place that a list has
+pub element_at : {X : Type 0} (xs : List X) (k : ℕ) → k < length xs → X
+element_at [] k within = absurd (omega arith)
+element_at (x ∷ xs) zero within = x
+element_at (x ∷ xs) (suc k) within = element_at xs k (omega arith)

@@ -16,11 +16,11 @@ use Rattle.pf_model.specs.Division.{Division, IsDivision, rank_count}
 use Rattle.pf_model.specs.Domains.{Multisection, piece_at, cuts_in_slab, cuts_in_column, cut_before, cuts_of, slab_of, owner_by, cuts_for, owner, particles_of}
 use Rattle.pf_model.specs.DomainLaws.{OwnersAreRanks, OwnersByCutsAreRanks, OneRankHasItsOwn, AllRanksHaveAll, LoneRanksHaveAll}
 
-length-cuts_of : (along : Position → ℕ) (js : List Particle) (m : ℕ) → length (cuts_of along js m) ≡ m - 1
+pub length-cuts_of : (along : Position → ℕ) (js : List Particle) (m : ℕ) → length (cuts_of along js m) ≡ m - 1
 length-cuts_of along js m = length-map-range_with_len (cut_before along js m) 1 (m - 1)
 
 -- with a cut before each slab but the first, a coordinate is in one of them
-slab_below : (cuts : List ℕ) (m n : ℕ) → 1 ≤ m → length cuts ≤ m - 1 → slab_of cuts n < m
+pub slab_below : (cuts : List ℕ) (m n : ℕ) → 1 ≤ m → length cuts ≤ m - 1 → slab_of cuts n < m
 slab_below cuts m n some long = let most = count_by-le-length (λ cut. nat_le cut n) cuts in omega arith
 
 piece_at-short : (len : ℕ) (cuts : List ℕ) (k : ℕ) → length (piece_at len cuts k) ≤ len

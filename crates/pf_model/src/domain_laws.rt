@@ -1,7 +1,7 @@
 // The laws of domains and ranks, each the contract of a function that does nothing when it runs. A caller whose
 // proof needs a law calls its function.
 
-ghost use Rattle.pf_model.specs.DomainLaws.{OwnersAreRanks, OwnersByCutsAreRanks, OneRankHasItsOwn, AllRanksHaveAll, LoneRanksHaveAll};
+ghost use Rattle.pf_model.specs.DomainLaws.{OwnersAreRanks, OwnersByCutsAreRanks, OneRankHasItsOwn, AllRanksHaveAll, LoneRanksHaveAll, CutsAscend, BoxesByCutsHoldWhatIsOwned, DomainBoxesHoldWhatIsOwned, CutsIgnoreOrder, DomainsIgnoreOrder, EssentialTreesIgnoreOrder, RanksHaveTheirOwn};
 
 /// The owner of a position is one of the ranks.
 pub fn owners_are_ranks()
@@ -26,4 +26,39 @@ pub fn all_ranks_have_all()
 /// Where there is one rank, it owns every position, and has all particles.
 pub fn lone_ranks_have_all()
     ensures { LoneRanksHaveAll }
+{}
+
+/// The cuts that particles make ascend.
+pub fn cuts_ascend()
+    ensures { CutsAscend }
+{}
+
+/// By the cuts of a multisection the box of a rank holds exactly what the rank owns.
+pub fn boxes_by_cuts_hold_what_is_owned()
+    ensures { BoxesByCutsHoldWhatIsOwned }
+{}
+
+/// The domain box of a rank holds exactly what the rank owns.
+pub fn domain_boxes_hold_what_is_owned()
+    ensures { DomainBoxesHoldWhatIsOwned }
+{}
+
+/// The order of particles changes no cut.
+pub fn cuts_ignore_order()
+    ensures { CutsIgnoreOrder }
+{}
+
+/// The order of particles changes no owner and no domain box.
+pub fn domains_ignore_order()
+    ensures { DomainsIgnoreOrder }
+{}
+
+/// The order of particles changes no essential tree.
+pub fn essential_trees_ignore_order()
+    ensures { EssentialTreesIgnoreOrder }
+{}
+
+/// A list of a rank and others has the particles of the one and of the others, up to their order.
+pub fn ranks_have_their_own()
+    ensures { RanksHaveTheirOwn }
 {}

@@ -25,8 +25,10 @@ mod theta;
 
 pub use body::Body;
 pub use domain_laws::{
-    all_ranks_have_all, lone_ranks_have_all, one_rank_has_its_own, owners_are_ranks,
-    owners_by_cuts_are_ranks,
+    all_ranks_have_all, boxes_by_cuts_hold_what_is_owned, cuts_ascend, cuts_ignore_order,
+    domain_boxes_hold_what_is_owned, domains_ignore_order, essential_trees_ignore_order,
+    lone_ranks_have_all, one_rank_has_its_own, owners_are_ranks, owners_by_cuts_are_ranks,
+    ranks_have_their_own,
 };
 pub use entry::Entry;
 pub use ess_tree::{EssTree, Terms};
