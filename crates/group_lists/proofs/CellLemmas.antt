@@ -15,7 +15,7 @@ use Rattle.pf_model.specs.Interaction.{level_of, is_cell, is_cell_at, leads_to_c
 use Rattle.pf_model.specs.Group.{particles_in}
 use Rattle.pf_model.specs.ListLaws.{IsFirstPassing, LevelsAreLeast}
 
-abbrev octant : ℕ → ℕ → Octant
+abbrev pub octant : ℕ → ℕ → Octant
 octant level key = record { level = level; key = key }
 
 -- the key of a position's cell, from that of a deeper one
@@ -32,7 +32,7 @@ share_lower p q level deep above within same =
     (higher_key p level deep above within ∙ ap (λ (o : Octant). o.key / 8 ^ (deep - level)) same ∙ sym (higher_key q level deep above within))
 
 -- a position in the first passing cell of another has it as its own
-first_shared : (t : Criterion) (box : Bounds) (p q : Position) (level : ℕ) → IsFirstPassing t box p level → cell_at q level ≡ cell_at p level → IsFirstPassing t box q level
+pub first_shared : (t : Criterion) (box : Bounds) (p q : Position) (level : ℕ) → IsFirstPassing t box p level → cell_at q level ≡ cell_at p level → IsFirstPassing t box q level
 first_shared t box p q level h same = record {
   within = h.within;
   passes = subst (λ (c : Octant). Passes box c t) (sym same) h.passes;

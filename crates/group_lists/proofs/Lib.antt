@@ -1,3 +1,4 @@
 pub mod CellLemmas
 pub mod OrderLemmas
+pub mod RunLemmas
 pub mod GatherLemmas

@@ -1,5 +1,5 @@
 -- Entries in the order of lists, after a sort by their places.
-use Rattle.std.proofs.Common.{◌≡◌, ℕ, zero, suc, ◌<◌, ◌≤◌, Bool, true, false, ◌&&◌, ◌||◌, List, [], ◌∷◌, length, get_or, map, ◌⊎◌, inl, inr, Option, Some, None, refl, sym, ◌∙◌, ap, subst, arith, eqb, ltb, nat_eq}
+use Rattle.std.proofs.Common.{◌≡◌, ℕ, ◌<◌, ◌≤◌, Bool, true, false, ◌&&◌, ◌||◌, List, [], ◌∷◌, get_or, map, ◌⊎◌, inl, inr, Option, Some, None, refl, sym, ◌∙◌, ap, subst, arith, eqb, ltb, nat_eq}
 use Rattle.std.specs.Prelude.{⊤}
 use Rattle.std.specs.List.{filter, Contains, AllPairs, dedup}
 use Rattle.std.specs.List.Sorted.{IsPermutation, IsSortedBy, IsStrictlySortedBy}
@@ -26,6 +26,7 @@ use Rattle.pf_model.specs.Sums.{moment_of}
 use Rattle.pf_model.specs.Interaction.{level_of, leads_to_cell, entry_at, entry_of, comes_before, list_of}
 use Rattle.pf_model.specs.ListLaws.{LevelsAreLeast, ListsHoldTheirEntries}
 use Rattle.group_lists.specs.Places.{place_of}
+use Rattle.group_lists.specs.Runs.{HasEntriesOf}
 
 -- the order of pairs that the sort goes by, and whether two pairs are equal
 abbrev pair_cmp : ℕ → ℕ → ℕ → ℕ → Ordering
@@ -156,23 +157,6 @@ shallow_entry : (t : Criterion) (box : Bounds) (js : List Particle) (p : Particl
 shallow_entry t box js p None low = tt
 shallow_entry t box js p (Some level) low = low
 
-contains_more : {X : Type 0} (y : X) (ys : List X) (x : X) → Contains ys x → Contains (y ∷ ys) x
-contains_more y ys x h = (suc h.0, (let within : h.0 < length ys = h.1 in omega arith), h.2)
-
--- an element that f gives
-abbrev IsGiven : {X Y : Type 0} → (X → Y) → List X → Y → Type 0
-IsGiven {X} f xs y = (x : X) × Contains xs x × (y ≡ f x)
-
-given_from_map : {X Y : Type 0} (f : X → Y) (xs : List X) (y : Y) → Contains (map f xs) y → IsGiven f xs y
-given_from_map f [] y h = absurd (omega (arith, h.1))
-given_from_map f (x ∷ xs) y (zero, within, at) = (x, (zero, omega arith, refl), sym at)
-given_from_map f (x ∷ xs) y (suc k, within, at) =
-    let rest = given_from_map f xs y (k, omega arith, at) in
-    (rest.0, contains_more x xs rest.0 rest.1, rest.2)
-
-given_in_map : {X Y : Type 0} (f : X → Y) (xs : List X) (x : X) → Contains xs x → Contains (map f xs) (f x)
-given_in_map f xs x h = (h.0, rw length-map h.1, get_or-map f xs h.0 x (f x) h.1 ∙ ap f h.2)
-
 pairs_from_strict : {X : Type 0} (R : X → X → Ordering) (xs : List X) → IsStrictlySortedBy R xs → AllPairs (λ x y. R x y ≡ Less) xs
 unfolding IsStrictlySortedBy
 pairs_from_strict R [] h = λ i j d less within. absurd (omega arith)
@@ -180,12 +164,12 @@ pairs_from_strict R (x ∷ xs) h =
     AllPairs-cons (λ a b. R a b ≡ Less) x xs (All-from_recursion (λ y. R x y ≡ Less) xs h.0) (pairs_from_strict R xs h.1)
 
 -- the entries of particles, sorted and each once, are their list
-pub list_from_sort : LevelsAreLeast → ListsHoldTheirEntries → (t : Criterion) (box : Bounds) (js : List Particle) → HaveDistinctIds js → (sorted : List Entry) → IsPermutation (map (entry_of t box js) js) sorted → IsSortedBy is_earlier sorted → dedup same_place sorted ≡ list_of t box js
-list_from_sort levels laws t box js distinct sorted same order =
+pub list_from_sort : LevelsAreLeast → ListsHoldTheirEntries → (t : Criterion) (box : Bounds) (js : List Particle) → HaveDistinctIds js → (raw sorted : List Entry) → HasEntriesOf t box js raw → IsPermutation raw sorted → IsSortedBy is_earlier sorted → dedup same_place sorted ≡ list_of t box js
+list_from_sort levels laws t box js distinct raw sorted has same order =
     let f = entry_of t box js in
     let low : (p : Particle) → IsLow (level_of t box p.at) = λ p. low_level levels t box p (level_of t box p.at) refl in
-    let sound : (e : Entry) → Contains (dedup same_place sorted) e → IsGiven f js e = λ e h.
-    given_from_map f js e (Contains-permutation sorted (map f js) e (IsPermutation-sym (map f js) sorted same) (Contains-from_dedup same_place sorted e h)) in
+    let sound : (e : Entry) → Contains (dedup same_place sorted) e → (j : Particle) × Contains js j × (e ≡ f j) = λ e h.
+    has.sound e (Contains-permutation sorted raw e (IsPermutation-sym raw sorted same) (Contains-from_dedup same_place sorted e h)) in
     let pairs = pairs_from_strict by_place (dedup same_place sorted) (IsStrictlySortedBy-dedup by_place-total same_place-ties sorted order) in
     (laws t box js (dedup same_place sorted) distinct).0 (record {
       ordered = λ i j d less within.
@@ -194,7 +178,7 @@ list_from_sort levels laws t box js distinct sorted same order =
           let shallow = subst IsShallow (sym from.2) (shallow_entry t box js from.0 (level_of t box from.0.at) (low from.0)) in
           before_from_less (get_or (dedup same_place sorted) i d) e shallow (pairs i j d less within);
       complete = λ j h.
-          let there = Contains-permutation (map f js) sorted (f j) same (given_in_map f js j h) in
+          let there = Contains-permutation raw sorted (f j) same (has.complete j h) in
           let kept = Any-dedup same_place-equiv sorted (f j) there in
           let e = kept.1 in
           let from = sound e (kept.0, kept.2, kept.3) in

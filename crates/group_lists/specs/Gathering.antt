@@ -35,8 +35,10 @@ gathered_count t g js gather = sum_by (λ group. length (partial_list t g js gat
 abbrev pub IsWhole : Division → Gathering → Type 0
 IsWhole g gather = (rank : ℕ) → rank < rank_count g → Contains (gather.rank ∷ gather.absorbed) rank
 
--- a group of these particles: its span lies among them, and its box is the least round those of the span
+-- a group of these particles: its span lies among them and isn't empty, and its box is the least round those of
+-- the span
 pub record IsGroupOf (js : List Particle) (g : Group) : Type 0 where
+  pub some : 1 ≤ g.span.len
   pub inside : g.span.first + g.span.len ≤ length js
   pub around : g.around ≡ box_of (at_span g.span js)
 

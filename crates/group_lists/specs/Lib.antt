@@ -1,4 +1,5 @@
 pub mod Places
+pub mod Runs
 pub mod Gathering
 pub mod Whole
 pub use Rattle.pf_model.specs.Particle

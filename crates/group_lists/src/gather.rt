@@ -47,7 +47,8 @@ impl<T: Terms> Model for Gather<T> {
 
 impl<T: Terms> Gather<T> {
     /// Begins the lists of groups of a rank's tree, which hasn't moved, with its own bodies. There are at
-    /// most `MOST_PARTICLES` groups, each with a span of the tree and the least box round its bodies.
+    /// most `MOST_PARTICLES` groups, each with a span of the tree that isn't empty, and the least box round its
+    /// bodies.
     pub fn open<L: Ledger>(
         alloc: Global,
         rank: u32,
@@ -130,9 +131,10 @@ fn list_groups<L: Ledger>(
     ensures bounded { IfOk result (λ r. sum_by length (map (λ l. l.entries.items) r.0.items) ≤ 2 ^ 24) }
 {
     let mut listed = Vec::with_capacity(alloc, groups.len())?;
+    let mut scratch = Vec::new(alloc);
     let mut count = 0;
     for group in groups {
-        let entries = list_over(alloc, tree, group.around, t, steps)?;
+        let entries = list_over(alloc, tree, group.around, t, &mut scratch, steps)?;
         count += entries.len() as u64;
         listed.push(Listed {
             group: *group,

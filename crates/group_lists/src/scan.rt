@@ -1,11 +1,12 @@
-ghost use Rattle.std.specs.Prelude.{◌≡◌, ◌+◌, ◌<◌, ◌≤◌, List, IfOk, IfSome, length, map, sum_by};
+ghost use Rattle.std.specs.Prelude.{◌≡◌, ◌<◌, ◌≤◌, List, IfOk, IfSome, length};
 ghost use Rattle.pf_geom.specs.Bounds.{Bounds};
 ghost use Rattle.pf_model.specs.Particle.{Particle};
 ghost use Rattle.pf_model.specs.Particles.{HaveDistinctIds};
 ghost use Rattle.pf_model.specs.Criterion.{Criterion};
-ghost use Rattle.pf_model.specs.Interaction.{level_of, entry_of, list_of};
+ghost use Rattle.pf_model.specs.Interaction.{level_of, list_of};
 ghost use Rattle.morton_tree.specs.Tree.{IsUnmoved};
 ghost use Rattle.group_lists.specs.Places.{place_of};
+ghost use Rattle.group_lists.specs.Runs.{IsRun, HasEntriesOf};
 
 use morton_tree::Tree;
 use opening_test::passes;
@@ -20,13 +21,15 @@ use std::sync::ledger::Ledger;
 // Particles come after cells of every level.
 const AFTER_CELLS: u32 = DEEPEST + 1;
 
-// The interaction list of a box over the bodies of a tree, by a plain scan: each body is judged by itself,
-// also where the one before it leads to the same cell.
+// The interaction list of a box over the bodies of a tree. They stand in key order, so those that lead to one
+// cell stand together, and only the first of them is judged. The entries are gathered and put in order in
+// `scratch`, whatever it held before.
 pub(crate) fn list_over<L: Ledger>(
     alloc: Global,
     tree: &Tree,
     b: Box3,
     t: Theta,
+    scratch: &mut Vec<Entry>,
     steps: &mut Steps<L>,
 ) -> Result<Vec<Entry>, OutOfMemory>
     requires { IsUnmoved tree.now }
@@ -34,18 +37,21 @@ pub(crate) fn list_over<L: Ledger>(
     ensures few { IfOk result (λ entries. length entries.items ≤ MOST_PARTICLES) }
 {
     let bodies = tree.bodies();
-    let mut entries = Vec::with_capacity(alloc, bodies.len())?;
-    for body in bodies {
-        entries.push(entry_for(tree, b, t, body, steps))?;
+    scratch.clear();
+    let mut place = 0;
+    while place < bodies.len() {
+        let (entry, end) = run_from(tree, b, t, place, steps);
+        scratch.push(entry)?;
+        place = end;
     }
-    put_in_order(&mut entries);
-    Ok(entries)
+    put_in_order(scratch);
+    Ok(Vec::from_slice(alloc, scratch)?)
 }
 
 // Puts the entries that particles lead to into the order of lists, each once.
 fn put_in_order(entries: &mut Vec<Entry>)
     ensures { (t : Criterion) (box : Bounds) (js : List Particle) → HaveDistinctIds js
-        → entries.old.items ≡ map (entry_of t box js) js → entries.new.items ≡ list_of t box js }
+        → HasEntriesOf t box js entries.old.items → entries.new.items ≡ list_of t box js }
 {
     levels_are_least();
     lists_hold_their_entries();
@@ -63,18 +69,29 @@ fn place_of(entry: &Entry) -> (u32, u128)
     }
 }
 
-// The entry that a body of the tree leads to. All bodies in its cell lead there.
-fn entry_for<L: Ledger>(tree: &Tree, b: Box3, t: Theta, body: &Body, steps: &mut Steps<L>) -> Entry
-    requires { IsUnmoved tree.now }
-    ensures { result ≡ entry_of t b tree.now.built body.now }
+// The entry that the body at a place leads to, and the place after the last body of its cell, where it is a
+// cell, or else after itself.
+fn run_from<L: Ledger>(
+    tree: &Tree,
+    b: Box3,
+    t: Theta,
+    place: usize,
+    steps: &mut Steps<L>,
+) -> (Entry, usize)
+    requires unmoved { IsUnmoved tree.now }
+    requires within { place < length tree.now.built }
+    ensures { IsRun t b tree.now.built place result.0 result.1 }
 {
     levels_are_least();
+    let body = &tree.bodies()[place];
     match first_level(b, t, body.at, steps) {
         Some(level) => {
             let cell = cell_of(body.at, level);
-            Entry::Cell(cell, tree.moment(tree.node(cell)))
+            let span = tree.node(cell);
+            let end = span.first as usize + span.len as usize;
+            (Entry::Cell(cell, tree.moment(span)), end)
         }
-        None => Entry::One(*body),
+        None => (Entry::One(*body), place + 1),
     }
 }
 

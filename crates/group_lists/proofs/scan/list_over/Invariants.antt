@@ -1,6 +1,9 @@
-use Rattle.std.proofs.Common.{◌≡◌, map, take}
-use Rattle.pf_model.specs.Interaction.{entry_of}
+use Rattle.std.proofs.Common.{length, ◌-◌}
+use Rattle.group_lists.proofs.RunLemmas.{AreBelow}
 use Rattle.group_lists.proofs.scan.list_over.Given as goal
 
-abbrev pub invariant-loop-body : goal.invariant-loop-body
-invariant-loop-body g l = l.entries.items ≡ map (entry_of l.t l.b l.tree.built) (take l.body-index l.bodies)
+abbrev pub invariant-loop-place : goal.invariant-loop-place
+invariant-loop-place g l = AreBelow l.t l.b l.tree.built l.place l.scratch.items
+
+abbrev pub decreases-loop-place : goal.decreases-loop-place
+decreases-loop-place g l = length l.bodies - l.place
