@@ -1,0 +1,40 @@
+/// A method of a store.
+#[derive(Clone, Copy, Debug, PartialEq, Eq, Hash)]
+pub enum StoreCall {
+    Open,
+    Read,
+    Create,
+    Write,
+    Say,
+}
+
+/// A part of the program that isn't built yet.
+#[derive(Clone, Copy, Debug, PartialEq, Eq, Hash)]
+pub enum Part {
+    /// The command `bench`.
+    Bench,
+    /// A deck with more than one rank.
+    Grid,
+    /// A deck that reuses its lists.
+    Reuse,
+}
+
+/// How a command ended. `R` is why an input is refused, `F` is how a step of a run fails.
+#[derive(Clone, Copy, Debug, PartialEq, Eq, Hash)]
+pub enum Status<R, F> {
+    Done,
+    /// The words make no command.
+    Usage,
+    /// An input is refused; nothing was written.
+    Refused(R),
+    /// This step has this fault.
+    Numeric(u32, F),
+    /// The lists of this step have more entries than the limit, namely so many.
+    Lists(u32, u64),
+    /// This part isn't built yet; nothing was written.
+    NotBuilt(Part),
+    /// This method of the store failed.
+    StoreFault(StoreCall),
+    /// Memory ran out.
+    Memory,
+}
