@@ -3,7 +3,7 @@
 use Rattle.std.specs.Prelude.{ℕ, ◌≡◌, List, Option, Some, None, Result, Ok, Err}
 use Rattle.std.proofs.Common.{inl, inr, sym, ◌∙◌, ap, subst, arith}
 use Rattle.pf_io.specs.Store.{Files}
-use Rattle.command_frame.specs.Verdict.{Verdict, stops, AfterText, After, Within, Unless, AtMostOne}
+use Rattle.command_frame.specs.Verdict.{Verdict, stops, AfterText, After, Within, Refusing, Unless, AtMostOne}
 use Rattle.command_frame.specs.declared.status.Status.{Status}
 use Rattle.command_frame.specs.declared.status.Status.TheVariants.{Refused}
 
@@ -31,6 +31,13 @@ one_within limit large Means sure text a b p q = elim p [
   | inl m ↦ elim q [ inl n ↦ sure text a b m.1 n.1 | inr n ↦ absurd (omega (arith, m.0, n.0)) ]
   | inr m ↦ elim q [ inl n ↦ absurd (omega (arith, m.0, n.0)) | inr n ↦ m.1 ∙ sym n.1 ]
 ]
+
+pub one_refusing : {A E R : Type 0} (why : E → R) (Means : List ℕ → Result A E → Type 0) → ((text : List ℕ) → AtMostOne (Means text)) → (text : List ℕ) → AtMostOne (Refusing why Means text)
+one_refusing why Means sure text (Ok x) (Ok y) p q = let e = sure text (Ok x) (Ok y) p q in let same : x ≡ y = cc in ap Ok same
+one_refusing why Means sure text (Ok x) (Err r) p q = let e = sure text (Ok x) (Err q.0) p q.1 in cc
+one_refusing why Means sure text (Err r) (Ok y) p q = let e = sure text (Err p.0) (Ok y) p.1 q in cc
+one_refusing why Means sure text (Err r) (Err s) p q =
+    let e = sure text (Err p.0) (Err q.0) p.1 q.1 in let same : p.0 ≡ q.0 = cc in ap Err (p.2 ∙ ap why same ∙ sym q.2)
 
 pub one_unless : {R F : Type 0} (ending : Option (Status R F)) (next : Verdict R F → Type 0) → AtMostOne next → AtMostOne (Unless ending next)
 one_unless None next one = one

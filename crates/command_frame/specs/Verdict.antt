@@ -32,6 +32,11 @@ abbrev pub Within : {A R : Type 0} → ℕ → R → (List ℕ → Result A R �
 Within limit large Means text answer =
     ((length text ≤ limit) × Means text answer) ⊎ ((limit < length text) × (answer ≡ Err large))
 
+-- the faults of a text are why it is refused
+abbrev pub Refusing : {A E R : Type 0} → (E → R) → (List ℕ → Result A E → Type 0) → List ℕ → Result A R → Type 0
+Refusing why Means text (Ok value) = Means text (Ok value)
+Refusing {E = E} why Means text (Err refusal) = (fault : E) × Means text (Err fault) × (refusal ≡ why fault)
+
 -- the command ends so, unless nothing ends it here
 abbrev pub Unless : {R F : Type 0} → Option (Status R F) → (Verdict R F → Type 0) → Verdict R F → Type 0
 Unless None next verdict = next verdict

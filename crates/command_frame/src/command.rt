@@ -31,9 +31,6 @@ pub trait Command<R, F> {
 
     fn line(alloc: Global, status: &Status<R, F>) -> Result<Vec<u8>, OutOfMemory>
         ensures { IfOk result (λ v. v.items ≡ line_of status.now) };
-
-    // The verdict is one.
-    ghost one_verdict: { (command : Self) (files : Files) → AtMostOne (means command files) };
 }
 
 /// Carries out a command, and says in one line how it ended, unless it was done.
@@ -42,7 +39,8 @@ pub fn conclude<R: Copy, F: Copy, C: Command<R, F>, S: Store>(
     command: &C,
     store: &mut S,
 ) -> Status<R, F>
-    requires { HasRoom (S.faults store.old) }
+    requires room { HasRoom (S.faults store.old) }
+    requires one_verdict { (files : Files) → AtMostOne (C.means command.now files) }
     ensures { Concludes (C.may_end command.now) (C.means command.now) C.line_of result
         (standing (S.told store.old) (S.faults store.old) (S.is_steady store.old))
         (standing (S.told store.new) (S.faults store.new) (S.is_steady store.new)) }

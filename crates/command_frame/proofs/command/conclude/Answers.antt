@@ -4,4 +4,4 @@ use Rattle.command_frame.proofs.command.conclude.Goals as goal
 pub returns : goal.returns
 returns g c =
     concluded (g.C.Command.may_end c.args.command.now) (g.C.Command.means c.args.command.now) g.C.Command.line_of c.carry_out-status.result c.say_line.result _ _ _
-    (g.met.C.Command.one_verdict c.args.command.now) c.carry_out-status.ensures c.say_line.ensures
+    c.requires.one_verdict c.carry_out-status.ensures c.say_line.ensures
