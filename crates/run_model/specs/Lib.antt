@@ -1,2 +1,6 @@
 pub mod StepText
 pub mod Leapfrog
+pub mod Force
+pub mod Setup
+pub mod Run
+pub mod Text

@@ -1,8 +1,11 @@
-// What a run is: forces, steps, the text of a step and the first fault. It stands on pf_model.
+// What a run is: forces, steps, the text of a step and the first fault. It stands on the meaning of
+// pairs, kern_meaning, and on the lists of pf_model.
 #![tactic(auto)]
 
+mod fault;
 mod sequence;
 mod step_text;
 
+pub use fault::{Fault, What};
 pub use sequence::Sequence;
 pub use step_text::{BodyLine, RankLine, Row, StepText};
