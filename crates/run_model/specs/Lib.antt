@@ -4,3 +4,4 @@ pub mod Force
 pub mod Setup
 pub mod Run
 pub mod Text
+pub mod RunLaws

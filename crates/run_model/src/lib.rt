@@ -3,9 +3,11 @@
 #![tactic(auto)]
 
 mod fault;
+mod laws;
 mod sequence;
 mod step_text;
 
 pub use fault::{Fault, What};
+pub use laws::states_stand_before_the_end;
 pub use sequence::Sequence;
 pub use step_text::{BodyLine, RankLine, Row, StepText};
