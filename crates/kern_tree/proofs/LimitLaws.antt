@@ -1,10 +1,9 @@
 -- What the grammar reads of a text's tokens is within the limits of numbers and scales.
-use Rattle.std.proofs.Common.{◌≡◌, ℕ, zero, suc, ◌<◌, ◌≤◌, ◌^◌, pos, inl, inr, refl, sym, ap, ap₂, ◌∙◌, subst, List, [], ◌∷◌, fold, map, Bool, true, ◌&&◌, IsTrue, nat_lt, nat_le, arith}
+use Rattle.std.proofs.Common.{ℕ, zero, suc, ◌<◌, ◌≤◌, ◌^◌, pos, inl, inr, sym, ap, subst, List, [], ◌∷◌, fold, arith}
 use Rattle.std.specs.Prelude.{neg_ℤ, FitsSigned}
 use Rattle.std.proofs.lemmas.Int.{ints}
 use Rattle.std.specs.Int.{w64}
-use Rattle.std.specs.List.{AllByRecursion, list_all}
-use Rattle.std.proofs.lemmas.Bool.Decides.{nat_tests}
+use Rattle.std.specs.List.{AllByRecursion}
 use Rattle.kern_token.specs.declared.limits.TheConstants.{MOST_SCALE}
 use Rattle.kern_token.specs.declared.token.Symbol.{Symbol}
 use Rattle.kern_token.specs.declared.token.Token.{Token}
@@ -14,9 +13,7 @@ use Rattle.kern_token.specs.declared.token.Word.{Word}
 use Rattle.kern_token.specs.declared.token.Word.TheVariants as words
 use Rattle.kern_token.specs.Pieces.{IsToken}
 use Rattle.kern_token.specs.Reading.{IsInLimit, Spells, StandsIn}
-use Rattle.kern_tree.specs.declared.expr.Expr.{Expr, fold-roll-Expr}
-use Rattle.kern_tree.specs.declared.expr.Form.{Form, fold-Form, fold-roll-Form}
-use Rattle.kern_tree.specs.declared.expr.Form.TheOpen.{Form-F}
+use Rattle.kern_tree.specs.declared.expr.Expr.{Expr}
 use Rattle.kern_tree.specs.declared.expr.Form.TheVariants as forms
 use Rattle.kern_tree.specs.declared.expr.Op1.{Op1}
 use Rattle.kern_tree.specs.declared.expr.Op1.TheVariants as op1s
@@ -29,64 +26,14 @@ use Rattle.kern_tree.specs.declared.kernel.DeclKind.{DeclKind}
 use Rattle.kern_tree.specs.declared.kernel.DeclKind.TheVariants as declared_as
 use Rattle.kern_tree.specs.declared.kernel.Kernel.{Kernel}
 use Rattle.kern_tree.specs.declared.kernel.Kind.{Kind}
-use Rattle.kern_tree.specs.declared.stmt.Act.{Act, fold-Act, fold-roll-Act}
-use Rattle.kern_tree.specs.declared.stmt.Act.TheOpen.{Act-F}
+use Rattle.kern_tree.specs.declared.stmt.Act.{Act}
 use Rattle.kern_tree.specs.declared.stmt.Act.TheVariants as acts
-use Rattle.kern_tree.specs.declared.stmt.Stmt.{Stmt, fold-roll-Stmt}
+use Rattle.kern_tree.specs.declared.stmt.Stmt.{Stmt}
 use Rattle.pf_geom.specs.declared.axis.Axis.{Axis}
-use Rattle.kern_tree.specs.Grammar.{node, two, part, stmt_node, operator, joined, axis, literal, variable, component, bracketed, call1, call2, call3, to_call, call, prim, post, unary, prod, sum, relation, rel, both, expr_over, expr_within, expr, assignment, block, conditional, stmt_over, stmt_within, stmt, kind, combine, field_of, force, signed, param, decl, SpellsKernel}
+use Rattle.kern_tree.specs.Grammar.{two, part, stmt_node, operator, joined, axis, literal, variable, component, bracketed, call1, call2, call3, to_call, call, prim, post, unary, prod, sum, relation, rel, both, expr_over, expr_within, expr, assignment, block, conditional, stmt_over, stmt_within, stmt, kind, combine, field_of, force, signed, param, decl, decl_node, SpellsKernel}
 use Rattle.kern_tree.specs.Rules.{Rule, At, ◌>>=◌, ◌>>◌, ◌or◌, pure, many, never, token, symbol, word, name, number, scale}
-use Rattle.kern_tree.specs.WithinLimits.{literal_fits, form_fits, at_form, expr_fits, act_fits, at_act, stmt_fits, DeclFits, ParsedIsWithinLimits}
-
--- ---- trees by their parts
-
-abbrev form_fit : Form → Bool
-form_fit = fold-Form Bool Bool form_fits at_form
-
-at_node : (place : ℕ) (form : Form) → expr_fits (node place form) ≡ form_fit form
-at_node place form = fold-roll-Expr Bool Bool form_fits at_form (record { place = place; form = form })
-
-fits-number : (place mantissa bits : ℕ) → expr_fits (node place (forms.Number mantissa bits)) ≡ literal_fits mantissa bits
-fits-number place m s = at_node place (forms.Number m s) ∙ ap form_fit (sym (forms.rolls-Number m s)) ∙ fold-roll-Form Bool Bool form_fits at_form (Form-F.Number m s)
-
-fits-name : (place : ℕ) (called : List ℕ) → expr_fits (node place (forms.Name called)) ≡ true
-fits-name place n = at_node place (forms.Name n) ∙ ap form_fit (sym (forms.rolls-Name n)) ∙ fold-roll-Form Bool Bool form_fits at_form (Form-F.Name n)
-
-fits-part : (place : ℕ) (a : Expr) (along : Axis) → expr_fits (node place (forms.Part a along)) ≡ expr_fits a
-fits-part place a along = at_node place (forms.Part a along) ∙ ap form_fit (sym (forms.rolls-Part a along)) ∙ fold-roll-Form Bool Bool form_fits at_form (Form-F.Part a along)
-
-fits-one : (place : ℕ) (op : Op1) (a : Expr) → expr_fits (node place (forms.One op a)) ≡ expr_fits a
-fits-one place op a = at_node place (forms.One op a) ∙ ap form_fit (sym (forms.rolls-One op a)) ∙ fold-roll-Form Bool Bool form_fits at_form (Form-F.One op a)
-
-fits-two : (place : ℕ) (op : Op2) (a b : Expr) → expr_fits (node place (forms.Two op a b)) ≡ (expr_fits a && expr_fits b)
-fits-two place op a b = at_node place (forms.Two op a b) ∙ ap form_fit (sym (forms.rolls-Two op a b)) ∙ fold-roll-Form Bool Bool form_fits at_form (Form-F.Two op a b)
-
-fits-three : (place : ℕ) (op : Op3) (a b c : Expr) → expr_fits (node place (forms.Three op a b c)) ≡ (expr_fits a && expr_fits b && expr_fits c)
-fits-three place op a b c = at_node place (forms.Three op a b c) ∙ ap form_fit (sym (forms.rolls-Three op a b c)) ∙ fold-roll-Form Bool Bool form_fits at_form (Form-F.Three op a b c)
-
-fits-to : (place k : ℕ) (a : Expr) → expr_fits (node place (forms.To k a)) ≡ expr_fits a
-fits-to place k a = at_node place (forms.To k a) ∙ ap form_fit (sym (forms.rolls-To k a)) ∙ fold-roll-Form Bool Bool form_fits at_form (Form-F.To k a)
-
-abbrev act_fit : Act → Bool
-act_fit = fold-Act Bool Bool act_fits at_act
-
-at_stmt : (place : ℕ) (act : Act) → stmt_fits (stmt_node place act) ≡ act_fit act
-at_stmt place act = fold-roll-Stmt Bool Bool act_fits at_act (record { place = place; act = act })
-
-fits-set : (place : ℕ) (target : List ℕ) (value : Expr) → stmt_fits (stmt_node place (acts.Set target value)) ≡ expr_fits value
-fits-set place t e = at_stmt place (acts.Set t e) ∙ ap act_fit (sym (acts.rolls-Set t e)) ∙ fold-roll-Act Bool Bool act_fits at_act (Act-F.Set t e)
-
-fits-give : (place : ℕ) (target : List ℕ) (value : Expr) → stmt_fits (stmt_node place (acts.Give target value)) ≡ expr_fits value
-fits-give place t e = at_stmt place (acts.Give t e) ∙ ap act_fit (sym (acts.rolls-Give t e)) ∙ fold-roll-Act Bool Bool act_fits at_act (Act-F.Give t e)
-
-list_all-map : (ss : List Stmt) → list_all (λ b. b) (map stmt_fits ss) ≡ list_all stmt_fits ss
-list_all-map [] = refl
-list_all-map (s ∷ ss) = ap (λ b. stmt_fits s && b) (list_all-map ss)
-
-fits-if : (place : ℕ) (condition : Expr) (body others : List Stmt) → stmt_fits (stmt_node place (acts.If condition body others)) ≡ (expr_fits condition && list_all stmt_fits body && list_all stmt_fits others)
-fits-if place c body others =
-    at_stmt place (acts.If c body others) ∙ ap act_fit (sym (acts.rolls-If c body others)) ∙ fold-roll-Act Bool Bool act_fits at_act (Act-F.If c body others)
-    ∙ ap₂ (λ a b. expr_fits c && a && b) (list_all-map body) (list_all-map others)
+use Rattle.kern_tree.specs.Limits as limited
+use Rattle.kern_tree.specs.Limits.{IsLimited, IsLimitedStmt, IsLimitedBlock, HasLimitedScale, HasLimitedValue, KeepsLimits, ParsedKernelsKeepLimits}
 
 -- ---- rules
 
@@ -107,10 +54,10 @@ abbrev Any : {A : Type 0} → A → Type 0
 Any value = Unit {0}
 
 abbrev Fits : Expr → Type 0
-Fits e = IsTrue (expr_fits e)
+Fits e = IsLimited e
 
 abbrev StmtFits : Stmt → Type 0
-StmtFits s = IsTrue (stmt_fits s)
+StmtFits s = IsLimitedStmt s
 
 keeps_then : {A B : Type 0} (P : A → Type 0) (Q : B → Type 0) {first : Rule A} {next : A → Rule B} → Keeps P first → ((a : A) → P a → Keeps Q (next a)) → Keeps Q (first >>= next)
 keeps_then P Q f g tokens value rest h fit =
@@ -145,23 +92,20 @@ keeps_scale tokens found rest h fit = subst Fit h.1 fit
 
 -- ---- expressions
 
-literal_fit : (m s : ℕ) → m < 2 ^ 63 → s ≤ MOST_SCALE → IsTrue (literal_fits m s)
-literal_fit m s h k = ap₂ (λ a b. a && b) (let e : nat_lt m (2 ^ 63) ≡ true = grind (arith, nat_tests) in e) (let e : nat_le s MOST_SCALE ≡ true = grind (arith, nat_tests) in e)
-
 keeps_literal : Keeps Fits literal
 keeps_literal =
     keeps_then (λ (found : At ℕ). found.held < 2 ^ 63) Fits keeps_number (λ digits small.
     keeps_then (λ s. s ≤ MOST_SCALE) Fits (keeps_or (λ s. s ≤ MOST_SCALE) (keeps_then (λ (found : At ℕ). found.held ≤ MOST_SCALE) (λ s. s ≤ MOST_SCALE) keeps_scale (λ written limit. keeps_pure (λ s. s ≤ MOST_SCALE) written.held limit)) (keeps_pure (λ s. s ≤ MOST_SCALE) 0 (let e : 0 ≤ MOST_SCALE = omega arith in e))) (λ bits limit.
-    keeps_pure Fits _ (fits-number digits.place digits.held bits ∙ literal_fit digits.held bits small limit)))
+    keeps_pure Fits _ (limited.literal small limit)))
 
 keeps_variable : Keeps Fits variable
-keeps_variable = keeps_then Any Fits keeps_name (λ called any. keeps_pure Fits _ (fits-name called.place called.held))
+keeps_variable = keeps_then Any Fits keeps_name (λ called any. keeps_pure Fits _ limited.name)
 
 keeps_operator : {A : Type 0} (spelled : Symbol) (op : A) → Keeps Any (operator spelled op)
 keeps_operator spelled op = keeps_then Any Any (keeps_token (kinds.Symbol spelled)) (λ place any. keeps_pure Any _ tt)
 
 two_fits : (first : Expr) (more : At Op2 × Expr) → Fits first → Fits more.1 → Fits (two first more)
-two_fits first more h k = fits-two (more.0).place (more.0).held first more.1 ∙ ap₂ (λ a b. a && b) h k
+two_fits first more h k = limited.two h k
 
 all_fit : (first : Expr) (more : List (At Op2 × Expr)) → Fits first → AllByRecursion (λ (m : At Op2 × Expr). Fits m.1) more → Fits (fold two first more)
 all_fit first [] h k = h
@@ -177,7 +121,7 @@ keeps_joined operators operand f g =
 
 parts_fit : (whole : Expr) (parts : List (At Axis)) → Fits whole → Fits (fold part whole parts)
 parts_fit whole [] h = h
-parts_fit whole (p ∷ parts) h = parts_fit (part whole p) parts (fits-part p.place whole p.held ∙ h)
+parts_fit whole (p ∷ parts) h = parts_fit (part whole p) parts (limited.part h)
 
 keeps_axis : Keeps Any axis
 keeps_axis tokens along rest h fit = (tt, (subst Fit (h.1).1 fit).1)
@@ -195,26 +139,26 @@ module _ (inside : Rule Expr) (g : Keeps Fits inside) where
   keeps_call1 : (w : Word) (op : Op1) → Keeps Fits (call1 inside w (forms.One op))
   keeps_call1 w op =
       keeps_then Any Fits (keeps_token (kinds.Word w)) (λ place any. keeps_then Any Fits (keeps_symbol _) (λ p any'.
-      keeps_then Fits Fits g (λ a fits. keeps_then Any Fits (keeps_symbol _) (λ q any''. keeps_pure Fits _ (fits-one place op a ∙ fits)))))
+      keeps_then Fits Fits g (λ a fits. keeps_then Any Fits (keeps_symbol _) (λ q any''. keeps_pure Fits _ (limited.one fits)))))
 
   keeps_call2 : (w : Word) (op : Op2) → Keeps Fits (call2 inside w (forms.Two op))
   keeps_call2 w op =
       keeps_then Any Fits (keeps_token (kinds.Word w)) (λ place any. keeps_then Any Fits (keeps_symbol _) (λ p any'.
       keeps_then Fits Fits g (λ a fa. keeps_then Any Fits (keeps_symbol _) (λ q any''.
-      keeps_then Fits Fits g (λ b fb. keeps_then Any Fits (keeps_symbol _) (λ r any'''. keeps_pure Fits _ (fits-two place op a b ∙ ap₂ (λ x y. x && y) fa fb)))))))
+      keeps_then Fits Fits g (λ b fb. keeps_then Any Fits (keeps_symbol _) (λ r any'''. keeps_pure Fits _ (limited.two fa fb)))))))
 
   keeps_call3 : (w : Word) (op : Op3) → Keeps Fits (call3 inside w (forms.Three op))
   keeps_call3 w op =
       keeps_then Any Fits (keeps_token (kinds.Word w)) (λ place any. keeps_then Any Fits (keeps_symbol _) (λ p any'.
       keeps_then Fits Fits g (λ a fa. keeps_then Any Fits (keeps_symbol _) (λ q any''.
       keeps_then Fits Fits g (λ b fb. keeps_then Any Fits (keeps_symbol _) (λ r any'''.
-      keeps_then Fits Fits g (λ c fc. keeps_then Any Fits (keeps_symbol _) (λ s any''''. keeps_pure Fits _ (fits-three place op a b c ∙ ap₂ (λ x y. x && y) (ap₂ (λ x y. x && y) fa fb) fc)))))))))
+      keeps_then Fits Fits g (λ c fc. keeps_then Any Fits (keeps_symbol _) (λ s any''''. keeps_pure Fits _ (limited.three fa fb fc)))))))))
 
   keeps_to : Keeps Fits (to_call inside)
   keeps_to =
       keeps_then Any Fits (keeps_token (kinds.Word words.To)) (λ place any. keeps_then Any Fits (keeps_symbol _) (λ p any'.
       keeps_then (λ (found : At ℕ). found.held < 2 ^ 63) Fits keeps_number (λ bits small. keeps_then Any Fits (keeps_symbol _) (λ q any''.
-      keeps_then Fits Fits g (λ a fa. keeps_then Any Fits (keeps_symbol _) (λ r any'''. keeps_pure Fits _ (fits-to place _ a ∙ fa)))))))
+      keeps_then Fits Fits g (λ a fa. keeps_then Any Fits (keeps_symbol _) (λ r any'''. keeps_pure Fits _ (limited.to fa)))))))
 
   keeps_call : Keeps Fits (call inside)
   keeps_call =
@@ -228,7 +172,7 @@ module _ (inside : Rule Expr) (g : Keeps Fits inside) where
   keeps_post = keeps_then Fits Fits keeps_prim (λ whole fits. keeps_then (AllByRecursion Any) Fits (keeps_many Any keeps_component) (λ parts any. keeps_pure Fits _ (parts_fit whole parts fits)))
 
   keeps_unary : Keeps Fits (unary inside)
-  keeps_unary = keeps_or Fits keeps_post (keeps_then Any Fits (keeps_or Any (keeps_operator _ _) (keeps_operator _ _)) (λ op any. keeps_then Fits Fits keeps_post (λ a fits. keeps_pure Fits _ (fits-one op.place op.held a ∙ fits))))
+  keeps_unary = keeps_or Fits keeps_post (keeps_then Any Fits (keeps_or Any (keeps_operator _ _) (keeps_operator _ _)) (λ op any. keeps_then Fits Fits keeps_post (λ a fits. keeps_pure Fits _ (limited.one fits))))
 
   keeps_prod : Keeps Fits (prod inside)
   keeps_prod = keeps_joined _ (unary inside) (keeps_or Any (keeps_operator _ _) (keeps_operator _ _)) keeps_unary
@@ -259,9 +203,9 @@ keeps_expr tokens value rest h fit = keeps_within h.0 tokens value rest h.1 fit
 
 -- ---- statements
 
-all_stmts_fit : (ss : List Stmt) → AllByRecursion StmtFits ss → IsTrue (list_all stmt_fits ss)
-all_stmts_fit [] h = refl
-all_stmts_fit (s ∷ ss) h = ap₂ (λ a b. a && b) h.0 (all_stmts_fit ss h.1)
+all_stmts_fit : (ss : List Stmt) → AllByRecursion StmtFits ss → IsLimitedBlock ss
+all_stmts_fit [] h = limited.none
+all_stmts_fit (s ∷ ss) h = limited.more h.0 (all_stmts_fit ss h.1)
 
 -- an act makes a statement that fits, of any value that fits
 abbrev Makes : (List ℕ → Expr → Act) → Type 0
@@ -271,8 +215,8 @@ keeps_assignment : Keeps StmtFits assignment
 keeps_assignment =
     keeps_then Any StmtFits keeps_name (λ target any.
     keeps_then Makes StmtFits (keeps_or Makes
-    (keeps_then Any Makes (keeps_token _) (λ p any'. keeps_pure Makes acts.Set (λ place t e fits. fits-set place t e ∙ fits)))
-    (keeps_then Any Makes (keeps_token _) (λ p any'. keeps_pure Makes acts.Give (λ place t e fits. fits-give place t e ∙ fits)))) (λ act makes.
+    (keeps_then Any Makes (keeps_token _) (λ p any'. keeps_pure Makes acts.Set (λ place t e fits. limited.set fits)))
+    (keeps_then Any Makes (keeps_token _) (λ p any'. keeps_pure Makes acts.Give (λ place t e fits. limited.give fits)))) (λ act makes.
     keeps_then Fits StmtFits keeps_expr (λ value fits. keeps_then Any StmtFits (keeps_token _) (λ q any'. keeps_pure StmtFits _ (makes target.place target.held value fits)))))
 
 module _ (inside : Rule Stmt) (g : Keeps StmtFits inside) where
@@ -288,7 +232,7 @@ module _ (inside : Rule Stmt) (g : Keeps StmtFits inside) where
   keeps_conditional =
       keeps_then Any StmtFits (keeps_token _) (λ place any. keeps_then Fits StmtFits keeps_expr (λ condition fits.
       keeps_then (AllByRecursion StmtFits) StmtFits keeps_block (λ body first. keeps_then (AllByRecursion StmtFits) StmtFits keeps_else (λ others second.
-      keeps_pure StmtFits _ (fits-if place condition body others ∙ ap₂ (λ a b. a && b) (ap₂ (λ a b. a && b) fits (all_stmts_fit body first)) (all_stmts_fit others second))))))
+      keeps_pure StmtFits _ (limited.conditional fits (all_stmts_fit body first) (all_stmts_fit others second))))))
 
   keeps_stmt_over : Keeps StmtFits (stmt_over inside)
   keeps_stmt_over = keeps_or StmtFits keeps_assignment keeps_conditional
@@ -303,7 +247,7 @@ keeps_stmt tokens value rest h fit = keeps_stmt_within h.0 tokens value rest h.1
 -- ---- declarations
 
 abbrev WhatFits : Decl → Type 0
-WhatFits d = DeclFits d.what
+WhatFits d = HasLimitedScale d × HasLimitedValue d
 
 keeps_kind : Keeps Any kind
 keeps_kind = keeps_or Any (keeps_then Any Any (keeps_token _) (λ p any. keeps_pure Any _ tt)) (keeps_then Any Any (keeps_token _) (λ p any. keeps_pure Any _ tt))
@@ -314,16 +258,16 @@ keeps_combine = keeps_or Any (keeps_or Any (keeps_then Any Any (keeps_token _) (
 abbrev Limited : At ℕ → Type 0
 Limited found = found.held ≤ MOST_SCALE
 
-keeps_field : (w : Word) (what : Kind → ℕ → List ℕ → DeclKind) → ((of_kind : Kind) (s : ℕ) (field : List ℕ) → s ≤ MOST_SCALE → DeclFits (what of_kind s field)) → Keeps WhatFits (field_of w what)
+keeps_field : (w : Word) (what : Kind → ℕ → List ℕ → DeclKind) → ((place : ℕ) (called : List ℕ) (of_kind : Kind) (s : ℕ) (field : List ℕ) → s ≤ MOST_SCALE → WhatFits (decl_node place called (what of_kind s field))) → Keeps WhatFits (field_of w what)
 keeps_field w what makes =
     keeps_then Any WhatFits (keeps_token _) (λ place any. keeps_then Any WhatFits keeps_kind (λ of_kind any'. keeps_then Limited WhatFits keeps_scale (λ bits limit.
     keeps_then Any WhatFits keeps_name (λ called any''. keeps_then Any WhatFits (keeps_token _) (λ p any'''. keeps_then Any WhatFits keeps_name (λ field any''''.
-    keeps_then Any WhatFits (keeps_token _) (λ q any'''''. keeps_pure WhatFits _ (makes of_kind bits.held field.held limit))))))))
+    keeps_then Any WhatFits (keeps_token _) (λ q any'''''. keeps_pure WhatFits _ (makes place called.held of_kind bits.held field.held limit))))))))
 
 keeps_force : Keeps WhatFits force
 keeps_force =
     keeps_then Any WhatFits (keeps_token _) (λ place any. keeps_then Any WhatFits keeps_kind (λ of_kind any'. keeps_then Limited WhatFits keeps_scale (λ bits limit.
-    keeps_then Any WhatFits keeps_name (λ called any''. keeps_then Any WhatFits keeps_combine (λ combined any'''. keeps_then Any WhatFits (keeps_token _) (λ q any''''. keeps_pure WhatFits _ limit))))))
+    keeps_then Any WhatFits keeps_name (λ called any''. keeps_then Any WhatFits keeps_combine (λ combined any'''. keeps_then Any WhatFits (keeps_token _) (λ q any''''. keeps_pure WhatFits _ (limit, tt)))))))
 
 pos_fits : (n : ℕ) → n < 2 ^ 63 → FitsSigned w64 (pos n)
 pos_fits n h = omega (arith, ints)
@@ -343,7 +287,7 @@ keeps_param =
     keeps_then Any WhatFits (keeps_token _) (λ p any''. keeps_then (FitsSigned w64) WhatFits keeps_signed (λ value fits. keeps_then Any WhatFits (keeps_token _) (λ q any'''. keeps_pure WhatFits _ (limit, fits)))))))
 
 keeps_decl : Keeps WhatFits decl
-keeps_decl = keeps_or WhatFits (keeps_or WhatFits (keeps_or WhatFits (keeps_field words.Epi declared_as.Epi (λ k s f h. h)) (keeps_field words.Epj declared_as.Epj (λ k s f h. h))) keeps_force) keeps_param
+keeps_decl = keeps_or WhatFits (keeps_or WhatFits (keeps_or WhatFits (keeps_field words.Epi declared_as.Epi (λ p n k s f h. (h, tt))) (keeps_field words.Epj declared_as.Epj (λ p n k s f h. (h, tt)))) keeps_force) keeps_param
 
 -- ---- kernels
 
@@ -358,14 +302,22 @@ tokens_fit : (text : List ℕ) (tokens : List Token) → AllByRecursion (StandsI
 tokens_fit text [] h = tt
 tokens_fit text (t ∷ tokens) h = (token_fits t.kind _ h.0.spelled h.0.in_limit, tokens_fit text tokens h.1)
 
-pub kernel_fits : (tokens : List Token) (k : Kernel) → SpellsKernel tokens k → Fit tokens → AllByRecursion WhatFits k.decls × IsTrue (list_all stmt_fits k.body)
+pub kernel_fits : (tokens : List Token) (k : Kernel) → SpellsKernel tokens k → Fit tokens → AllByRecursion WhatFits k.decls × IsLimitedBlock k.body
 kernel_fits tokens k (ds, t1, read, (ss, t2, read', (same, stop))) fit =
     let first = keeps_many WhatFits keeps_decl tokens ds t1 read fit in
     let second = keeps_many StmtFits keeps_stmt t1 ss t2 read' first.1 in
-    (subst (AllByRecursion WhatFits) (ap (λ (x : Kernel). x.decls) (sym same)) first.0, ap (λ (x : Kernel). list_all stmt_fits x.body) same ∙ all_stmts_fit ss second.0)
+    (subst (AllByRecursion WhatFits) (ap (λ (x : Kernel). x.decls) (sym same)) first.0, subst IsLimitedBlock (ap (λ (x : Kernel). x.body) (sym same)) (all_stmts_fit ss second.0))
+
+each_first : (ds : List Decl) → AllByRecursion WhatFits ds → AllByRecursion HasLimitedScale ds
+each_first [] h = tt
+each_first (d ∷ ds) h = ((h.0).0, each_first ds h.1)
+
+each_second : (ds : List Decl) → AllByRecursion WhatFits ds → AllByRecursion HasLimitedValue ds
+each_second [] h = tt
+each_second (d ∷ ds) h = ((h.0).1, each_second ds h.1)
 
 -- from the law that a text's tokens stand in it
-pub within_limits : ((text : List ℕ) (tokens : List Token) → Spells text tokens → AllByRecursion (StandsIn text) tokens) → ParsedIsWithinLimits
-within_limits stand k h =
+pub keep_limits : ((text : List ℕ) (tokens : List Token) → Spells text tokens → AllByRecursion (StandsIn text) tokens) → ParsedKernelsKeepLimits
+keep_limits stand k h =
     let fits = kernel_fits h.tokens k h.parsed.spelled (tokens_fit h.text h.tokens (stand h.text h.tokens h.spelled)) in
-    record { decls = fits.0; body = fits.1; few = h.parsed.few }
+    record { decls = each_first k.decls fits.0; values = each_second k.decls fits.0; body = fits.1; few = h.parsed.few }

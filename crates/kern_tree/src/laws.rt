@@ -1,5 +1,5 @@
+ghost use Rattle.kern_tree.specs.Limits.{ParsedKernelsKeepLimits};
 ghost use Rattle.kern_tree.specs.OneAnswer.{OneTree, OneAnswer};
-ghost use Rattle.kern_tree.specs.WithinLimits.{ParsedIsWithinLimits};
 
 use kern_token::tokens_stand_in_order;
 
@@ -14,8 +14,8 @@ pub fn one_answer()
 {}
 
 /// A kernel that parsing can give has literals that are i64s, scales in their limit and few nodes.
-pub fn parsed_kernels_are_within_limits()
-    ensures { ParsedIsWithinLimits }
+pub fn parsed_kernels_keep_limits()
+    ensures { ParsedKernelsKeepLimits }
 {
     tokens_stand_in_order();
 }
