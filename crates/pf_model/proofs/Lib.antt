@@ -19,3 +19,5 @@ mod ReuseLemmas
 mod CutLemmas
 mod DomainLemmas
 mod DomainOrderLemmas
+mod MergeLemmas
+mod ListMergeLemmas

@@ -75,7 +75,7 @@ keeps test x (y ∷ ys) e (inr h) =
     cond_both (test y) _ _ (In x) (λ _. inr (keeps test x ys e h)) (λ _. keeps test x ys e h)
 
 -- the list ascends, and has the entries of the particles
-list-ascends : (t : Criterion) (box : Bounds) (js : List Particle) → IsAscending comes_before (list_of t box js)
+pub list-ascends : (t : Criterion) (box : Bounds) (js : List Particle) → IsAscending comes_before (list_of t box js)
 unfolding list_of
 list-ascends t box js = IsAscending-in_order comes_before comes_before-strict (map (entry_of t box js) js)
 

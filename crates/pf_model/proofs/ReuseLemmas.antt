@@ -51,12 +51,12 @@ filter_agree_on p q [] h = refl
 filter_agree_on p q (x ∷ xs) h =
     ap (λ (b : Bool). cond b (x ∷ filter p xs) (filter p xs)) (h x (inl refl)) ∙ ap (λ l. cond (q x) (x ∷ l) l) (filter_agree_on p q xs (λ y i. h y (inr i)))
 
-list_any-from_in : {X : Type 0} (p : X → Bool) (xs : List X) (x : X) → In x xs → p x ≡ true → list_any p xs ≡ true
+pub list_any-from_in : {X : Type 0} (p : X → Bool) (xs : List X) (x : X) → In x xs → p x ≡ true → list_any p xs ≡ true
 list_any-from_in p [] x i e = absurd i
 list_any-from_in p (y ∷ ys) x (inl s) e = or_left (p y) (list_any p ys) (ap p s ∙ e)
 list_any-from_in p (y ∷ ys) x (inr h) e = or_right (p y) (list_any p ys) (list_any-from_in p ys x h e)
 
-in_from_list_any : {X : Type 0} (p : X → Bool) (xs : List X) → list_any p xs ≡ true → (x : X) × In x xs × (p x ≡ true)
+pub in_from_list_any : {X : Type 0} (p : X → Bool) (xs : List X) → list_any p xs ≡ true → (x : X) × In x xs × (p x ≡ true)
 in_from_list_any p [] e = absurd (false≢true e)
 in_from_list_any p (y ∷ ys) e =
     elim (or_cases (p y) (list_any p ys) e) [

@@ -19,6 +19,8 @@ pub mod MomentLaws
 pub mod DomainLaws
 pub mod GroupLaws
 pub mod ReuseLaws
+pub mod Merging
+pub mod MergingLaws
 pub mod ParticleLaws
 pub use Rattle.pf_geom.specs.Position
 pub use Rattle.pf_geom.specs.Bounds

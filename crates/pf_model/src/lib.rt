@@ -13,6 +13,7 @@ mod item;
 mod least_box;
 mod limits;
 mod list_laws;
+mod merging_laws;
 mod moment;
 mod moment_laws;
 mod opening_laws;
@@ -47,6 +48,7 @@ pub use list_laws::{
     lists_hold_first_cells, lists_hold_near_particles, lists_hold_their_entries,
     lists_ignore_order, particles_in_the_box_are_near,
 };
+pub use merging_laws::{lists_merge, merged_lists_share_cells};
 pub use moment::Moment;
 pub use moment_laws::{
     moments_add_up, moments_cancel, moments_ignore_order, moments_keep_their_limits,
