@@ -21,7 +21,7 @@ use Rattle.pf_model.specs.DomainLaws.{CutsIgnoreOrder, DomainsIgnoreOrder, Essen
 use Rattle.pf_model.proofs.OrderLemmas.{In, IsConnected, IsAscending-in_order, in_from_in_order, in_order_from_in, same_ascending}
 use Rattle.pf_model.proofs.ListLemmas.{in_from_contains, contains_from_in, list-same}
 use Rattle.pf_model.proofs.EntryLemmas.{pair-connected, same_from_id}
-use Rattle.pf_model.proofs.PermutationLemmas.{IsPermutation-filter}
+use Rattle.pf_model.proofs.PermutationLemmas.{IsPermutation-filter, either_filter}
 use Rattle.pf_model.proofs.CutLemmas.{comes_first-strict}
 use Rattle.pf_model.proofs.ReuseLemmas.{some_have_distinct_ids, distinct_ids_ignore_order, filter_agree_on}
 
@@ -122,20 +122,7 @@ essential_trees_ignore_order t g js ks src dst distinct h =
     let items = list-same t (domain_box g js dst) (particles_of g js src) (particles_of g ks src) some senders ∙ ap (λ (b : Bounds). list_of t b (particles_of g ks src)) (box_alike g js ks dst distinct h) in
     ap (tree_for (particles_of g js dst)) items ∙ tree_alike (particles_of g js dst) (particles_of g ks dst) _ (sym (length_permutation (particles_of g js dst) (particles_of g ks dst) receivers))
 
--- tests that never hold together keep, each, what both keep
-either_kept : {X : Type 0} (a b : Bool) (x : X) (all us vs : List X) → (a ≡ true → b ≡ true → ⊥) → IsPermutation all (us ++ vs) → IsPermutation (cond (a || b) (x ∷ all) all) (cond a (x ∷ us) us ++ cond b (x ∷ vs) vs)
-either_kept true true x all us vs apart h = absurd (apart refl refl)
-either_kept true false x all us vs apart h = IsPermutation-cons x all (us ++ vs) h
-either_kept false true x all us vs apart h = IsPermutation-trans (x ∷ all) (x ∷ (us ++ vs)) (us ++ x ∷ vs) (IsPermutation-cons x all (us ++ vs) h) (IsPermutation-sym (us ++ x ∷ vs) (x ∷ (us ++ vs)) (IsPermutation-middle us x vs))
-either_kept false false x all us vs apart h = h
-
-either_filter : {X : Type 0} (p q : X → Bool) → ((x : X) → p x ≡ true → q x ≡ true → ⊥) → (xs : List X) → IsPermutation (filter (λ x. p x || q x) xs) (filter p xs ++ filter q xs)
-either_filter p q apart [] = IsPermutation-refl []
-either_filter p q apart (x ∷ xs) =
-    either_kept (p x) (q x) x (filter (λ y. p y || q y) xs) (filter p xs) (filter q xs) (apart x) (either_filter p q apart xs)
-
 pub ranks_have_their_own : RanksHaveTheirOwn
 ranks_have_their_own g js rank ranks apart =
     either_filter (λ j. nat_eq (owner g js j.at) rank) (λ j. list_any (nat_eq (owner g js j.at)) ranks)
-    (λ j e h. apart (let same : owner g js j.at ≡ rank = eqb-true (owner g js j.at) rank e in subst (Contains ranks) same (Contains-from_any eqb-true (owner g js j.at) ranks h)))
-    js
+    js (λ j _ e h. apart (let same : owner g js j.at ≡ rank = eqb-true (owner g js j.at) rank e in subst (Contains ranks) same (Contains-from_any eqb-true (owner g js j.at) ranks h)))

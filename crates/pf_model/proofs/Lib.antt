@@ -21,3 +21,4 @@ mod DomainLemmas
 mod DomainOrderLemmas
 mod MergeLemmas
 mod ListMergeLemmas
+mod SufficiencyLemmas

@@ -42,7 +42,7 @@ lists_are_short t box js =
     omega arith
 
 -- a position in the first passing cell of another has it as its own
-first_shared : PositionsShareLowerCells → (t : Criterion) (box : Bounds) (p q : Position) (level : ℕ) → IsFirstPassing t box p level → cell_at q level ≡ cell_at p level → IsFirstPassing t box q level
+pub first_shared : PositionsShareLowerCells → (t : Criterion) (box : Bounds) (p q : Position) (level : ℕ) → IsFirstPassing t box p level → cell_at q level ≡ cell_at p level → IsFirstPassing t box q level
 first_shared share t box p q level h same = record {
   within = h.within;
   passes = subst (λ (c : Octant). Passes box c t) (sym same) h.passes;

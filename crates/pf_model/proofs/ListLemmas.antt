@@ -83,7 +83,7 @@ pub list-sound : (t : Criterion) (box : Bounds) (js : List Particle) (e : Entry)
 unfolding list_of
 list-sound t box js e i = entry_from_map t box js js e (in_from_in_order comes_before (map (entry_of t box js) js) e i)
 
-list-complete : (t : Criterion) (box : Bounds) (js : List Particle) → HaveDistinctIds js → (j : Particle) → In j js → In (entry_of t box js j) (list_of t box js)
+pub list-complete : (t : Criterion) (box : Bounds) (js : List Particle) → HaveDistinctIds js → (j : Particle) → In j js → In (entry_of t box js j) (list_of t box js)
 unfolding list_of
 list-complete t box js distinct j i =
     in_order_from_in comes_before (map (entry_of t box js) js) (IsConnected-entries t box js js distinct (λ p h. h)) (entry_of t box js j) (entry_in_map t box js js j i)
@@ -107,7 +107,7 @@ same_list t box js es fs a b =
     (λ e h. let found = b.sound e (contains_from_in fs e h) in subst (λ (v : Entry). P v es) (sym found.2) (in_from_contains es (entry_of t box js found.0) (a.complete found.0 found.1)))
 
 -- an entry of the list to which j leads is the entry of j
-entry-unique : (t : Criterion) (box : Bounds) (js : List Particle) → HaveDistinctIds js → (j : Particle) → In j js → (e : Entry) → In e (list_of t box js) → leads_to t box e j ≡ true → e ≡ entry_of t box js j
+pub entry-unique : (t : Criterion) (box : Bounds) (js : List Particle) → HaveDistinctIds js → (j : Particle) → In j js → (e : Entry) → In e (list_of t box js) → leads_to t box e j ≡ true → e ≡ entry_of t box js j
 entry-unique t box js distinct j i e h leads =
     let found = list-sound t box js e h in
     let leads' : leads_to t box (entry_of t box js found.0) j ≡ true = sym (ap (λ (v : Entry). leads_to t box v j) found.2) ∙ leads in

@@ -1,8 +1,9 @@
 -- What holds along a permutation of a list.
-use Rattle.std.proofs.Common.{◌≡◌, ℕ, zero, suc, ◌<◌, ◌≤◌, Bool, true, false, cond, List, [], ◌∷◌, ◌++◌, length, get_or, set, refl, arith}
+use Rattle.std.proofs.Common.{◌≡◌, ℕ, zero, suc, ◌<◌, ◌≤◌, Bool, true, false, cond, List, [], ◌∷◌, ◌++◌, ◌||◌, length, get_or, set, inl, inr, refl, arith}
 use Rattle.std.specs.List.{filter, swap}
 use Rattle.std.specs.List.Sorted.{IsPermutation}
-use Rattle.std.proofs.lemmas.List.Sorted.{IsPermutation-refl, IsPermutation-cons, IsPermutation-trans, IsPermutation-swap, IsPermutation-keeps}
+use Rattle.pf_model.proofs.OrderLemmas.{In}
+use Rattle.std.proofs.lemmas.List.Sorted.{IsPermutation-refl, IsPermutation-cons, IsPermutation-trans, IsPermutation-swap, IsPermutation-keeps, IsPermutation-sym, IsPermutation-middle}
 
 -- a relation of lists that is reflexive and transitive, and goes under a head and over an exchange of two heads
 module _ {X : Type 0} (R : List X → List X → Type 0) (same : (xs : List X) → R xs xs)
@@ -52,3 +53,15 @@ IsPermutation-filter {X} test xs ys h =
     (λ x y us. kept_turned (test x) (test y) x y (filter test us))
     (λ us vs ws p q. IsPermutation-trans (filter test us) (filter test vs) (filter test ws) p q)
     xs ys h
+
+-- two tests, never both, keep together what either keeps
+either_kept : {X : Type 0} (a b : Bool) (x : X) (all us vs : List X) → (a ≡ true → b ≡ true → ⊥) → IsPermutation all (us ++ vs) → IsPermutation (cond (a || b) (x ∷ all) all) (cond a (x ∷ us) us ++ cond b (x ∷ vs) vs)
+either_kept true true x all us vs apart h = absurd (apart refl refl)
+either_kept true false x all us vs apart h = IsPermutation-cons x all (us ++ vs) h
+either_kept false true x all us vs apart h = IsPermutation-trans (x ∷ all) (x ∷ (us ++ vs)) (us ++ x ∷ vs) (IsPermutation-cons x all (us ++ vs) h) (IsPermutation-sym (us ++ x ∷ vs) (x ∷ (us ++ vs)) (IsPermutation-middle us x vs))
+either_kept false false x all us vs apart h = h
+
+pub either_filter : {X : Type 0} (p q : X → Bool) (xs : List X) → ((x : X) → In x xs → p x ≡ true → q x ≡ true → ⊥) → IsPermutation (filter (λ x. p x || q x) xs) (filter p xs ++ filter q xs)
+either_filter p q [] apart = IsPermutation-refl []
+either_filter p q (x ∷ xs) apart =
+    either_kept (p x) (q x) x (filter (λ y. p y || q y) xs) (filter p xs) (filter q xs) (apart x (inl refl)) (either_filter p q xs (λ y i. apart y (inr i)))

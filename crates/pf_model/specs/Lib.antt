@@ -21,6 +21,7 @@ pub mod GroupLaws
 pub mod ReuseLaws
 pub mod Merging
 pub mod MergingLaws
+pub mod Sufficiency
 pub mod ParticleLaws
 pub use Rattle.pf_geom.specs.Position
 pub use Rattle.pf_geom.specs.Bounds

@@ -22,6 +22,7 @@ mod plain_group;
 mod plain_list;
 mod reuse_laws;
 mod steps;
+mod sufficiency_laws;
 mod theta;
 
 pub use body::Body;
@@ -62,4 +63,7 @@ pub use plain_group::slow_group;
 pub use plain_list::slow_list;
 pub use reuse_laws::{kept_lists_begin_as_lists, present_begins_as_built};
 pub use steps::Steps;
+pub use sufficiency_laws::{
+    boxes_lie_in_domains, entries_add_up_their_items, items_lie_in_one_entry,
+};
 pub use theta::Theta;
