@@ -4,7 +4,7 @@ ghost use Rattle.method_examples.specs.Resting.{resting};
 
 use super::bodies::{body, two_close_and_one_far};
 use pf_geom::{Box3, Cell, Edge, Point};
-use pf_model::{Body, Entry, Moment, Theta, slow_group, slow_list};
+use pf_model::{Body, Entry, MOST_PARTICLES, Moment, Theta, slow_group, slow_list};
 use std::test::Fail;
 
 // One body alone.

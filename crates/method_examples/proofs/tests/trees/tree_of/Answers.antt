@@ -1,4 +1,4 @@
-use Rattle.std.proofs.Common.{◌≢◌, ℕ, ◌∷◌, [], sym, subst}
+use Rattle.std.proofs.Common.{◌≢◌, ℕ, ◌∷◌, [], length, sym, ap, subst, arith}
 use Rattle.std.specs.List.{IsDistinct}
 use Rattle.std.specs.Prelude.{nat_eq}
 use Rattle.std.proofs.lemmas.Bool.{ne_eqb}
@@ -9,6 +9,8 @@ three_differ : (a b c : ℕ) → a ≢ b → a ≢ c → b ≢ c → IsDistinct 
 unfolding IsDistinct
 three_differ a b c p q r = ((ne_eqb a b p, (ne_eqb a c q, tt)), ((ne_eqb b c r, tt), (tt, tt)))
 
-pub build-requires-clause-distinct : goal.build-requires-clause-distinct
-build-requires-clause-distinct g c = λ _ _.
-    subst HaveDistinctIds (sym c.in_ok-from_array.ensures.items) (three_differ c.args.a.id c.args.b.id c.args.c.id c.requires.a_and_b_differ c.requires.a_and_c_differ c.requires.b_and_c_differ)
+pub build-requires-after_bounds : goal.build-requires-after_bounds
+build-requires-after_bounds g c = λ _ _. record {
+  few = (let three = ap length c.in_ok-from_array.ensures.items in omega arith);
+  distinct = subst HaveDistinctIds (sym c.in_ok-from_array.ensures.items) (three_differ c.args.a.id c.args.b.id c.args.c.id c.requires.a_and_b_differ c.requires.a_and_c_differ c.requires.b_and_c_differ);
+}
