@@ -1,0 +1,4 @@
+pub mod ColumnLemmas
+pub mod ReadingLemmas
+pub mod IdLemmas
+pub mod ReadSoFar

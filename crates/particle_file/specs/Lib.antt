@@ -1,0 +1,6 @@
+pub mod Columns
+pub mod FaultText
+pub mod Laws
+pub mod Printing
+pub mod Reading
+pub mod Spelling
