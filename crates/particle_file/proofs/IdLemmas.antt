@@ -3,13 +3,13 @@ use Rattle.std.proofs.Common.{◌≡◌, ◌≢◌, ℕ, eqb, Bool, true, false,
 use Rattle.std.specs.Prelude.{nat_eq}
 use Rattle.std.specs.Cmp.{nat_eq_equiv, unsigned_ties}
 use Rattle.std.specs.BTreeMap.{is_at}
-use Rattle.std.specs.List.{list_any, IsDistinct}
+use Rattle.std.specs.List.{AllByRecursion, list_any, IsDistinct}
 use Rattle.std.proofs.lemmas.Bool.{cases_eq}
 use Rattle.std.proofs.lemmas.Bool.Decides.{nat_tests}
 use Rattle.std.proofs.lemmas.Grind.{common_steps}
 use Rattle.std.proofs.lemmas.List.{map-append}
 use Rattle.std.proofs.lemmas.List.Folds.{list_any-append}
-use Rattle.std.proofs.lemmas.Map.Keys.{IsDistinct-push}
+use Rattle.std.proofs.lemmas.Map.Keys.{IsDistinct-push, IsDistinct-head, IsDistinct-tail}
 use Rattle.pf_model.specs.Particle.{Particle}
 use Rattle.pf_model.specs.Particles.{HaveDistinctIds}
 
@@ -50,3 +50,19 @@ not_held a false e h = refl
 pub held_already : (a b : Bool) → a ≡ not b → a ≡ false → b ≡ true
 held_already a true e h = refl
 held_already a false e h = cc
+
+pub no_ids : HaveDistinctIds []
+unfolding IsDistinct
+no_ids = tt
+
+-- among particles of distinct ids the later ones have none of the earlier
+pub fresh_id : (before : List Particle) (p : Particle) (ps : List Particle) → HaveDistinctIds (before ++ p ∷ ps) → has_id before p.id ≡ false
+fresh_id [] p ps distinct = refl
+fresh_id (q ∷ before) p ps distinct =
+    let head = IsDistinct-head nat_eq q.id (map (λ r. r.id) (before ++ p ∷ ps)) distinct in
+    let rest = IsDistinct-tail nat_eq q.id (map (λ r. r.id) (before ++ p ∷ ps)) distinct in
+    let apart : eqb q.id p.id ≡ false = at_middle before p ps q.id head in
+    rw apart (fresh_id before p ps rest) where
+  at_middle : (bs : List Particle) (p : Particle) (ps : List Particle) (id : ℕ) → AllByRecursion (λ y. nat_eq id y ≡ false) (map (λ r. r.id) (bs ++ p ∷ ps)) → eqb id p.id ≡ false
+  at_middle [] p ps id each = each.0
+  at_middle (b ∷ bs) p ps id each = at_middle bs p ps id each.1

@@ -2,7 +2,6 @@
 use Rattle.std.proofs.Common.{◌≡◌, ℕ, ◌+◌, ◌-◌, ◌<◌, Bool, true, false, not, List, [], ◌∷◌, ◌++◌, length, length-append, nat_cmp, Option, Some, None, MatchOption, Ok, Err, refl, sym, ap, ◌∙◌, subst, arith, ℤ}
 use Rattle.std.specs.BTreeSet.{BTreeSet}
 use Rattle.std.specs.BTreeSet as tree
-use Rattle.std.specs.List.{IsDistinct}
 use Rattle.pf_model.specs.Particle.{Particle}
 use Rattle.pf_model.specs.Particles.{HaveDistinctIds}
 use Rattle.text_lines.specs.Lines.{FieldLine}
@@ -11,7 +10,7 @@ use Rattle.particle_file.specs.Reading.{numbers_in, particles_in}
 use Rattle.particle_file.specs.declared.fault.PartFault.{PartFault}
 use Rattle.particle_file.specs.declared.fault.PartFault.TheVariants as faults
 use Rattle.particle_file.proofs.ReadingLemmas.{one_particle_more, line_fault, duplicate_id, no_line_left}
-use Rattle.particle_file.proofs.IdLemmas.{has_id, distinct-push, has_id-push, not_held, held_already}
+use Rattle.particle_file.proofs.IdLemmas.{has_id, no_ids, distinct-push, has_id-push, not_held, held_already}
 
 -- `counter` of the particles that are due were read, and their ids are in the set
 pub record IsReadSoFar (count due : ℕ) (lines : List FieldLine) (counter : ℕ) (ps : List Particle) (ahead : List FieldLine) (ids : BTreeSet ℕ) : Type 0 where
@@ -19,10 +18,6 @@ pub record IsReadSoFar (count due : ℕ) (lines : List FieldLine) (counter : ℕ
   pub many : length ps ≡ counter
   pub distinct : HaveDistinctIds ps
   pub held : (q : ℕ) → tree.contains nat_cmp ids q ≡ has_id ps q
-
-no_ids : HaveDistinctIds []
-unfolding IsDistinct
-no_ids = tt
 
 pub nothing_read : (count due : ℕ) (lines : List FieldLine) (ps : List Particle) (ids : BTreeSet ℕ) → ps ≡ [] → tree.IsEmpty ids → IsReadSoFar count due lines 0 ps lines ids
 nothing_read count due lines ps ids none empty = record {

@@ -57,7 +57,7 @@ thirteenth line i fields rest field front all some =
     ap (λ k. after_front front (numbers_in line (k + 1) (drop k columns) fields)) all
     ∙ ap (λ fs. after_front front (numbers_in line 13 [] fs)) some
 
-number_found : (none outside : PartFault) (read : Result ℤ NumberFault) (n : ℤ) → number_or none outside read ≡ Ok n → read ≡ Ok n
+pub number_found : (none outside : PartFault) (read : Result ℤ NumberFault) (n : ℤ) → number_or none outside read ≡ Ok n → read ≡ Ok n
 number_found none outside (Ok m) n e = let same : m ≡ n = cc in ap Ok same
 number_found none outside (Err NoNumber) n e = cc
 number_found none outside (Err OutOfRange) n e = cc

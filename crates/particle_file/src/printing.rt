@@ -1,11 +1,11 @@
-ghost use Rattle.std.specs.Prelude.{◌≡◌, ◌++◌, IfOk, OnOk};
+ghost use Rattle.std.specs.Prelude.{◌≡◌, [], ◌∷◌, ◌++◌, pos, take, IfOk, OnOk};
 ghost use Rattle.std.specs.List.{AllByRecursion};
 ghost use Rattle.text_lines.specs.Written.{written_line};
-ghost use Rattle.particle_file.specs.Columns.{numbers};
 ghost use Rattle.particle_file.specs.Spelling.{IsPlain};
 ghost use Rattle.particle_file.specs.Printing.{fields_of, particles_text};
 
 use crate::Particles;
+use pf_geom::Point;
 use pf_io::push_decimal;
 use pf_model::Body;
 use pf_num::OutOfMemory;
@@ -30,9 +30,9 @@ pub fn print(alloc: Global, particles: &Particles) -> Result<Vec<u8>, OutOfMemor
 fn push_line(out: &mut Vec<u8>, body: &Body) -> Result<(), OutOfMemory>
     ensures { OnOk result (out.new.items ≡ out.old.items ++ written_line (fields_of body.now)) }
 {
-    let numbers = numbers_of(body);
-    push_decimal(out, i128::from(numbers[0]))?;
-    for number in &numbers[1..] {
+    let others = numbers_after_id(body.at, body.vel, body.mass, body.attr);
+    push_decimal(out, i128::from(body.id))?;
+    for number in &others {
         out.push(b' ')?;
         push_decimal(out, i128::from(*number))?;
     }
@@ -40,19 +40,11 @@ fn push_line(out: &mut Vec<u8>, body: &Body) -> Result<(), OutOfMemory>
     Ok(())
 }
 
-// The numbers of a particle's line.
-fn numbers_of(body: &Body) -> [i64; 12]
-    ensures { result ≡ numbers body.now }
+// The numbers of a particle's line, but for its id.
+fn numbers_after_id(at: Point, vel: [i64; 3], mass: u32, attr: [i64; 8]) -> [i64; 11]
+    ensures { result ≡ pos at.x ∷ pos at.y ∷ pos at.z ∷ (vel ++ pos mass ∷ [] ++ take 4 attr) }
 {
-    let Body {
-        id,
-        at,
-        vel,
-        mass,
-        attr,
-    } = *body;
     [
-        i64::from(id),
         i64::from(at.x),
         i64::from(at.y),
         i64::from(at.z),
