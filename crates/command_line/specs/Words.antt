@@ -1,6 +1,7 @@
 -- The command that the words after the program's name give. Another command is one more definition, and its line in
 -- `command_named`.
-use Rattle.std.specs.Prelude.{ℕ, ◌-◌, ◌^◌, List, [], ◌∷◌, Option, Some, None, option_and_then, codes, if◌then◌else◌}
+use Rattle.std.specs.Prelude.{ℕ, ◌-◌, ◌^◌, List, [], ◌∷◌, Option, Some, None, option_and_then, option_map, codes, if◌then◌else◌}
+use Rattle.std.specs.Borrow.{Bor}
 use Rattle.std.specs.Option.{option_map_or}
 use Rattle.std.specs.Str.{bytes_eq}
 use Rattle.clap.specs.Words.{App, Row, Text, first_of}
@@ -42,11 +43,15 @@ command_named first words =
     else (if bytes_eq first (codes "bench") then given_by bench_form bench_in words
     else None)
 
-abbrev pub command_of : List Text → Option (Command Text)
+unfoldable pub command_of : List Text → Option (Command Text)
 command_of [] = None
 command_of (first ∷ words) = command_named first words
 
--- the same command, with its names seen by f
+-- the same command, with its names changed by f
 abbrev pub command_map : {M N : Type 0} → (M → N) → Command M → Command N
 command_map f (Run deck workers) = Run (f deck) workers
 command_map f (Bench particles seed workers) = Bench particles seed workers
+
+-- a command that may be there, with its names seen as their texts
+abbrev pub with_texts : Option (Command (Bor Text)) → Option (Command Text)
+with_texts = option_map (command_map (λ name. name.now))

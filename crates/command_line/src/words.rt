@@ -1,7 +1,7 @@
 ghost use Rattle.std.specs.Prelude.{◌≡◌, IfOk, map, option_map};
 ghost use Rattle.clap.specs.Words.{app_of, first_of, found_of, rows_of};
-ghost use Rattle.command_line.specs.Words.{bench_form, bench_in, command_map, command_named};
-ghost use Rattle.command_line.specs.Words.{command_of, given_by, number_in, run_form, run_in, workers_in};
+ghost use Rattle.command_line.specs.Words.{bench_form, bench_in, command_named, command_of, given_by};
+ghost use Rattle.command_line.specs.Words.{number_in, run_form, run_in, with_texts, workers_in};
 
 use crate::Command;
 use crate::form::Form;
@@ -12,9 +12,9 @@ use std::alloc::{AllocError, Global};
 use std::convert::AsStr;
 
 /// The command that the words after the program's name give, if they give one.
+#[tactic(auto, unfolding(crate::specs::Words::command_of))]
 pub fn read<W: AsStr>(alloc: Global, words: &[W]) -> Result<Option<Command<&str>>, OutOfMemory>
-    ensures { IfOk result (λ command. option_map (command_map (λ name. name.now)) command
-        ≡ command_of (map W.text words.entry.now)) }
+    ensures { IfOk result (λ command. with_texts command ≡ command_of (map W.text words.entry.now)) }
 {
     match words {
         [] => Ok(None),
@@ -28,8 +28,7 @@ fn named<'a, W: AsStr>(
     name: &str,
     words: &'a [W],
 ) -> Result<Option<Command<&'a str>>, OutOfMemory>
-    ensures { IfOk result (λ command. option_map (command_map (λ name. name.now)) command
-        ≡ command_named name.now (map W.text words.entry.now)) }
+    ensures { IfOk result (λ command. with_texts command ≡ command_named name.now (map W.text words.entry.now)) }
 {
     match name {
         "run" => run(alloc, words),
@@ -39,8 +38,7 @@ fn named<'a, W: AsStr>(
 }
 
 fn run<W: AsStr>(alloc: Global, words: &[W]) -> Result<Option<Command<&str>>, OutOfMemory>
-    ensures { IfOk result (λ command. option_map (command_map (λ name. name.now)) command
-        ≡ given_by run_form run_in (map W.text words.entry.now)) }
+    ensures { IfOk result (λ command. with_texts command ≡ given_by run_form run_in (map W.text words.entry.now)) }
 {
     match run_form(alloc)?.given(words)? {
         Some(given) => Ok(run_in(&given)),
@@ -55,14 +53,13 @@ fn run_form<'a>(alloc: Global) -> Result<Form<'a>, AllocError>
 }
 
 fn run_in<'a>(given: &ArgMatches<'a>) -> Option<Command<&'a str>>
-    ensures { option_map (command_map (λ name. name.now)) result ≡ run_in (rows_of (found_of given.now)) }
+    ensures { with_texts result ≡ run_in (rows_of (found_of given.now)) }
 {
     Some(Command::Run(value(given, "deck")?, workers(given)?))
 }
 
 fn bench<W: AsStr>(alloc: Global, words: &[W]) -> Result<Option<Command<&str>>, OutOfMemory>
-    ensures { IfOk result (λ command. option_map (command_map (λ name. name.now)) command
-        ≡ given_by bench_form bench_in (map W.text words.entry.now)) }
+    ensures { IfOk result (λ command. with_texts command ≡ given_by bench_form bench_in (map W.text words.entry.now)) }
 {
     match bench_form(alloc)?.given(words)? {
         Some(given) => Ok(bench_in(&given)),
@@ -80,7 +77,7 @@ fn bench_form<'a>(alloc: Global) -> Result<Form<'a>, AllocError>
 }
 
 fn bench_in<'a>(given: &ArgMatches<'a>) -> Option<Command<&'a str>>
-    ensures { option_map (command_map (λ name. name.now)) result ≡ bench_in (rows_of (found_of given.now)) }
+    ensures { with_texts result ≡ bench_in (rows_of (found_of given.now)) }
 {
     let particles = number(given, "particles", 0, 65_536)?;
     let seed = number(given, "seed", 0, u64::MAX)?;
