@@ -1,0 +1,10 @@
+pub mod KeywordLemmas
+pub mod ReadingLemmas
+pub mod ValueLemmas
+pub mod PrintLemmas
+pub mod OptionLemmas
+pub mod LimitLemmas
+pub mod MadeLemmas
+pub mod KeptLimits
+pub mod PrintedLemmas
+pub mod ReadBack
