@@ -22,3 +22,4 @@ mod DomainOrderLemmas
 mod MergeLemmas
 mod ListMergeLemmas
 mod SufficiencyLemmas
+mod IdLemmas

@@ -1,5 +1,6 @@
 pub mod Particle
 pub mod Particles
+pub mod IdLaws
 pub mod NoTerms
 pub mod Criterion
 pub mod Division

@@ -9,6 +9,7 @@ mod ess_tree;
 mod field;
 mod grid;
 mod group_laws;
+mod id_laws;
 mod item;
 mod least_box;
 mod limits;
@@ -40,6 +41,9 @@ pub use group_laws::{
     boxes_are_least, boxes_ignore_order, each_is_in_one_group, group_cells_are_ordered,
     group_levels_are_least, groups_ignore_order, groups_of_one_are_one_place,
     members_share_their_group, positions_share_their_group,
+};
+pub use id_laws::{
+    orders_by_id_are_one, orders_by_id_have_distinct_ids, orders_by_id_keep_particles,
 };
 pub use item::Item;
 pub use least_box::box_of;
