@@ -1,5 +1,5 @@
 -- The least number that passes a test.
-use Rattle.std.proofs.Common.{◌≡◌, ℕ, zero, suc, ◌<◌, Bool, true, false, cond, Option, Some, None, inl, inr, refl, ◌∙◌, ap, arith}
+use Rattle.std.proofs.Common.{◌≡◌, ℕ, zero, suc, ◌<◌, Bool, true, false, cond, Option, Some, None, inl, inr, ◌∙◌, ap, arith}
 use Rattle.std.proofs.lemmas.Bool.{cond_both, cases_order}
 use Rattle.pf_model.specs.Order.{first_some, least_below}
 

@@ -1,2 +1,3 @@
 pub mod LeastNumbers
 pub mod StateLemmas
+pub mod ParticleLemmas

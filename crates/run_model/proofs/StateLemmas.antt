@@ -1,11 +1,10 @@
 -- Where steps have states.
-use Rattle.std.proofs.Common.{rules, ◌≡◌, ℕ, zero, suc, ◌+◌, ◌-◌, ◌<◌, ◌≤◌, Bool, true, false, Option, Some, None, is_some, inl, inr, refl, sym, ◌∙◌, ap, arith}
+use Rattle.std.proofs.Common.{rules, ◌≡◌, ℕ, zero, suc, ◌<◌, ◌≤◌, true, false, Option, Some, None, is_some, inl, inr, refl, arith}
 use Rattle.std.specs.Prelude.{IsSome, option_and_then}
 use Rattle.std.proofs.lemmas.Bool.{cases_order}
-use Rattle.pf_model.specs.Order.{least_below}
 use Rattle.run_model.specs.Setup.{Setup}
-use Rattle.run_model.specs.Run.{State, Stop, fault_at_start, state_at_start, fault_after, state_after, unless_stopped, state, first_fault, end_of}
-use Rattle.run_model.specs.RunLaws.{EndsAt, GoesThrough, EndsOrGoesThrough}
+use Rattle.run_model.specs.Run.{Stop, fault_at_start, state_at_start, fault_after, state_after, unless_stopped, state, first_fault, end_of}
+use Rattle.run_model.specs.RunLaws.{EndsOrGoesThrough}
 use Rattle.run_model.proofs.LeastNumbers.{IsLeast, IsLeast-least_below}
 
 none_from_test : {X : Type 0} (o : Option X) → is_some o ≡ false → o ≡ None

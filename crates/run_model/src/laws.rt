@@ -1,9 +1,31 @@
 // The laws of the definitions, each the contract of a function that does nothing when it runs. A caller
 // whose proof needs a law calls its function.
 
-ghost use Rattle.run_model.specs.RunLaws.{StatesStandBeforeTheEnd};
+ghost use Rattle.run_model.specs.RunLaws.{StatesStandBeforeTheEnd, StatesKeepTheParticles, RunsIgnoreTheOrderRead, EachIsInOneEntryOfEachList};
+
+use pf_model::{each_is_in_one_entry, orders_by_id_are_one, orders_by_id_have_distinct_ids};
 
 /// A state exists exactly for the steps before the end of a run.
 pub fn states_stand_before_the_end()
     ensures { StatesStandBeforeTheEnd }
 {}
+
+/// No step loses a particle, or changes its place in the order by ids.
+pub fn states_keep_the_particles()
+    ensures { StatesKeepTheParticles }
+{}
+
+/// The order in which particles are read changes nothing.
+pub fn runs_ignore_the_order_read()
+    ensures { RunsIgnoreTheOrderRead }
+{
+    orders_by_id_are_one();
+}
+
+/// Each particle is a member of exactly one entry of each group's list.
+pub fn each_is_in_one_entry_of_each_list()
+    ensures { EachIsInOneEntryOfEachList }
+{
+    orders_by_id_have_distinct_ids();
+    each_is_in_one_entry();
+}
