@@ -1,3 +1,4 @@
 pub mod LeastNumbers
 pub mod StateLemmas
 pub mod ParticleLemmas
+pub mod LimitLemmas

@@ -11,12 +11,12 @@ use Rattle.run_model.specs.Text.{told, rank_counts, body_row}
 use Rattle.run_model.specs.Force.{first_given, force_row}
 use Rattle.pf_model.specs.Order.{first_some}
 use Rattle.std.specs.Option.{option_map_or}
-use Rattle.run_model.specs.Run.{Driven, State, Stop, list_for, lists_fault, pull_fault, driven, moved, moved_body, kicked_again, is_build, built_at, fault_at_start, state_at_start, fault_after, state_after, unless_stopped, state, first_fault}
+use Rattle.run_model.specs.Run.{WithForces, State, Stop, list_for, lists_fault, forces_fault, with_forces, moved, moved_body, kicked_again, is_build, built_at, fault_at_start, state_at_start, fault_after, state_after, unless_stopped, state, first_fault}
 use Rattle.run_model.specs.RunLaws.{ids_of, HasAll, IsSameRun, with_particles}
 
 -- ---- what each step keeps
 
-same_unless : {X : Type 0} (o : Option Stop) (x y : X) → unless_stopped o x ≡ Some y → x ≡ y
+pub same_unless : {X : Type 0} (o : Option Stop) (x y : X) → unless_stopped o x ≡ Some y → x ≡ y
 same_unless None x y e = cc
 same_unless (Some stop) x y e = cc
 
@@ -24,15 +24,15 @@ kept_by_step : {X : Type 0} (P : X → Type 0) (f : X → Option Stop) (g : X �
 kept_by_step P f g None y before step e = cc
 kept_by_step P f g (Some x) y before step e = subst P (same_unless (f x) (g x) y e) (step x (before x refl))
 
-driven_ids : (f : Particle → List ℤ) (js : List Particle) → map (λ (d : Driven). d.body.id) (map (λ (i : Particle). record { body = i; forces = f i }) js) ≡ map (λ (p : Particle). p.id) js
-driven_ids f [] = refl
-driven_ids f (j ∷ js) = ap (λ rest. j.id ∷ rest) (driven_ids f js)
+with_forces-ids : (f : Particle → List ℤ) (js : List Particle) → map (λ (d : WithForces). d.body.id) (map (λ (i : Particle). record { body = i; forces = f i }) js) ≡ map (λ (p : Particle). p.id) js
+with_forces-ids f [] = refl
+with_forces-ids f (j ∷ js) = ap (λ rest. j.id ∷ rest) (with_forces-ids f js)
 
-kicked_ids : (u : Setup) (ds : List Driven) → map (λ (d : Driven). d.body.id) (map (kicked_again u) ds) ≡ map (λ (d : Driven). d.body.id) ds
+kicked_ids : (u : Setup) (ds : List WithForces) → map (λ (d : WithForces). d.body.id) (map (kicked_again u) ds) ≡ map (λ (d : WithForces). d.body.id) ds
 kicked_ids u [] = refl
 kicked_ids u (d ∷ ds) = ap (λ rest. d.body.id ∷ rest) (kicked_ids u ds)
 
-moved_ids : (u : Setup) (bodies : List Driven) → map (λ (p : Particle). p.id) (map (moved_body u) bodies) ≡ map (λ (d : Driven). d.body.id) bodies
+moved_ids : (u : Setup) (bodies : List WithForces) → map (λ (p : Particle). p.id) (map (moved_body u) bodies) ≡ map (λ (d : WithForces). d.body.id) bodies
 moved_ids u [] = refl
 moved_ids u (d ∷ ds) = ap (λ rest. d.body.id ∷ rest) (moved_ids u ds)
 
@@ -42,7 +42,7 @@ forces_over u built now i = force_row u.theta.edge u.kernel (list_for u built no
 start_has_all : (u : Setup) → HasAll u (state_at_start u)
 unfolding forces_over
 start_has_all u = record {
-  bodies = driven_ids (forces_over u (by_id u.particles) (by_id u.particles)) (by_id u.particles);
+  bodies = with_forces-ids (forces_over u (by_id u.particles) (by_id u.particles)) (by_id u.particles);
   built = refl;
 }
 
@@ -51,7 +51,7 @@ unfolding forces_over
 step_has_all u s before h =
     let here : map (λ (p : Particle). p.id) (moved u before) ≡ ids_of u = moved_ids u before.bodies ∙ h.bodies in
     record {
-      bodies = kicked_ids u (driven u (built_at u s before) (moved u before)) ∙ driven_ids (forces_over u (built_at u s before) (moved u before)) (moved u before) ∙ here;
+      bodies = kicked_ids u (with_forces u (built_at u s before) (moved u before)) ∙ with_forces-ids (forces_over u (built_at u s before) (moved u before)) (moved u before) ∙ here;
       built = cond_both (is_build u s) (moved u before) before.built (λ (js : List Particle). map (λ (p : Particle). p.id) js ≡ ids_of u) (λ _. here) (λ _. h.built);
     }
 
@@ -66,7 +66,7 @@ states_keep u (suc s) now e =
 -- the start of a run from particles in the order of their ids
 start_from : Setup → List Particle → Option State
 start_from u read =
-    unless_stopped (first_some (lists_fault u read) (first_given (pull_fault u read read) read)) (record { bodies = driven u read read; built = read })
+    unless_stopped (first_some (lists_fault u read) (first_given (forces_fault u read read) read)) (record { bodies = with_forces u read read; built = read })
 
 same_states : (u : Setup) (js : List Particle) → by_id u.particles ≡ by_id js → (s : ℕ) → state u s ≡ state (with_particles u js) s
 unfolding state start_from
@@ -75,7 +75,7 @@ same_states u js e (suc s) = ap (option_and_then (λ before. unless_stopped (fau
 
 same_faults : (u : Setup) (js : List Particle) → by_id u.particles ≡ by_id js → (s : ℕ) → first_fault u s ≡ first_fault (with_particles u js) s
 unfolding first_fault
-same_faults u js e zero = ap (λ read. first_some (lists_fault u read) (first_given (pull_fault u read read) read)) e
+same_faults u js e zero = ap (λ read. first_some (lists_fault u read) (first_given (forces_fault u read read) read)) e
 same_faults u js e (suc s) = ap (option_and_then (fault_after u (suc s))) (same_states u js e s)
 
 pub same_run : OrdersByIdAreOne → (u : Setup) (js : List Particle) → HaveDistinctIds u.particles → IsPermutation u.particles js → IsSameRun u (with_particles u js)

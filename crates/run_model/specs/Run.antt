@@ -14,14 +14,14 @@ use Rattle.run_model.specs.Leapfrog.{fast_axis, after_kick, escape_axis, after_d
 use Rattle.run_model.specs.Force.{first_given, force_row, force_fault, acceleration}
 
 -- a particle and the forces on it
-pub record Driven : Type 0 where
+pub record WithForces : Type 0 where
   pub body : Particle
   pub forces : List ℤ
 
 -- The particles after a step by ascending id, with their forces, and as they were at the last build. Owners,
 -- groups, lists and members are those that the particles of the build make.
 pub record State : Type 0 where
-  pub bodies : List Driven
+  pub bodies : List WithForces
   pub built : List Particle
 
 -- why a step has no state: a particle's fault, or too many entries in all lists together
@@ -40,22 +40,22 @@ abbrev pub list_for : Setup → List Particle → List Particle → Particle →
 list_for u built now i = kept_group_list u.theta built now (group_with u.group u.grid built (as_built built i))
 
 -- the particles with their forces
-abbrev pub driven : Setup → List Particle → List Particle → List Driven
-driven u built now = map (λ i. record { body = i; forces = force_row u.theta.edge u.kernel (list_for u built now i) i }) now
+abbrev pub with_forces : Setup → List Particle → List Particle → List WithForces
+with_forces u built now = map (λ i. record { body = i; forces = force_row u.theta.edge u.kernel (list_for u built now i) i }) now
 
 -- ---- the moves of a step
 
 -- a particle after half a kick by the forces on it
-abbrev pub kicked_body : Setup → Driven → Particle
-kicked_body u d = after_kick u.dt (acceleration u.kernel d.forces) d.body
+abbrev pub kicked_body : Setup → WithForces → Particle
+kicked_body u b = after_kick u.dt (acceleration u.kernel b.forces) b.body
 
 -- after the first half kick and the drift
-abbrev pub moved_body : Setup → Driven → Particle
-moved_body u d = after_drift u.theta.edge u.dt (kicked_body u d)
+abbrev pub moved_body : Setup → WithForces → Particle
+moved_body u b = after_drift u.theta.edge u.dt (kicked_body u b)
 
 -- after the second half kick
-abbrev pub kicked_again : Setup → Driven → Driven
-kicked_again u d = record { body = kicked_body u d; forces = d.forces }
+abbrev pub kicked_again : Setup → WithForces → WithForces
+kicked_again u b = record { body = kicked_body u b; forces = b.forces }
 
 -- ---- the particles at a step
 
@@ -74,30 +74,30 @@ built_at u s before = if is_build u s then moved u before else before.built
 abbrev pub state_at_start : Setup → State
 state_at_start u =
     let read = by_id u.particles in
-    record { bodies = driven u read read; built = read }
+    record { bodies = with_forces u read read; built = read }
 
 -- state(s) after state(s - 1), where it has no fault: half a kick, a drift, a build where it is due, forces, half a kick
 abbrev pub state_after : Setup → ℕ → State → State
 state_after u s before =
     let built = built_at u s before in
-    record { bodies = map (kicked_again u) (driven u built (moved u before)); built = built }
+    record { bodies = map (kicked_again u) (with_forces u built (moved u before)); built = built }
 
 -- ---- faults
 
-abbrev pub fault_of : ℕ → What → Stop
-fault_of id what = Numeric (record { id = id; what = what })
+abbrev pub numeric : ℕ → What → Stop
+numeric id what = Numeric (record { id = id; what = what })
 
 -- by the half kick on x, y and z
-abbrev pub kick_fault : Setup → Driven → Option Stop
-kick_fault u d = option_map (λ axis. fault_of d.body.id (Fast axis)) (fast_axis u.dt (acceleration u.kernel d.forces) d.body)
+abbrev pub kick_fault : Setup → WithForces → Option Stop
+kick_fault u b = option_map (λ axis. numeric b.body.id (Fast axis)) (fast_axis u.dt (acceleration u.kernel b.forces) b.body)
 
 -- by the drift after it on x, y and z
-abbrev pub drift_fault : Setup → Driven → Option Stop
-drift_fault u d = option_map (λ axis. fault_of d.body.id (Escaped axis)) (escape_axis u.theta.edge u.dt (kicked_body u d))
+abbrev pub drift_fault : Setup → WithForces → Option Stop
+drift_fault u b = option_map (λ axis. numeric b.body.id (Escaped axis)) (escape_axis u.theta.edge u.dt (kicked_body u b))
 
 -- by the half kick, and then by the drift
-abbrev pub move_fault : Setup → Driven → Option Stop
-move_fault u d = first_some (kick_fault u d) (drift_fault u d)
+abbrev pub move_fault : Setup → WithForces → Option Stop
+move_fault u b = first_some (kick_fault u b) (drift_fault u b)
 
 -- the entries of all lists of a build
 abbrev pub entry_count : Setup → List Particle → ℕ
@@ -108,14 +108,14 @@ abbrev pub lists_fault : Setup → List Particle → Option Stop
 lists_fault u built = if nat_lt (2 ^ 24) (entry_count u built) then Some (Lists (entry_count u built)) else None
 
 -- by the forces on a particle
-abbrev pub pull_fault : Setup → List Particle → List Particle → Particle → Option Stop
-pull_fault u built now i = option_map (fault_of i.id) (force_fault u.theta.edge u.kernel (list_for u built now i) i)
+abbrev pub forces_fault : Setup → List Particle → List Particle → Particle → Option Stop
+forces_fault u built now i = option_map (numeric i.id) (force_fault u.theta.edge u.kernel (list_for u built now i) i)
 
 -- the first fault of step 0: the lists, then by id the forces
 abbrev pub fault_at_start : Setup → Option Stop
 fault_at_start u =
     let read = by_id u.particles in
-    first_some (lists_fault u read) (first_given (pull_fault u read read) read)
+    first_some (lists_fault u read) (first_given (forces_fault u read read) read)
 
 -- the first fault of step s after state(s - 1): by id the first moves; at a build the lists; by id the forces; by id the
 -- second half kick
@@ -125,8 +125,8 @@ fault_after u s before =
     let now = moved u before in
     first_some (first_given (move_fault u) before.bodies)
     (first_some (if is_build u s then lists_fault u built else None)
-    (first_some (first_given (pull_fault u built now) now)
-    (first_given (kick_fault u) (driven u built now))))
+    (first_some (first_given (forces_fault u built now) now)
+    (first_given (kick_fault u) (with_forces u built now))))
 
 -- ---- the run
 

@@ -1,7 +1,7 @@
 -- Laws of runs.
-use Rattle.std.specs.Prelude.{◌≡◌, ℕ, ◌<◌, ◌≤◌, ◌↔◌, List, length, map, Option, Some, None, IsSome, Contains, IsPermutation, slice_index_or}
+use Rattle.std.specs.Prelude.{◌≡◌, ℕ, ◌<◌, ◌≤◌, ◌↔◌, List, length, map, Option, Some, None, IsSome, All, Contains, IsPermutation, slice_index_or}
 use Rattle.pf_model.specs.declared.entry.Entry.{Entry}
-use Rattle.pf_model.specs.Particle.{Particle}
+use Rattle.pf_model.specs.Particle.{Particle, IsParticle}
 use Rattle.pf_model.specs.Particles.{HaveDistinctIds, by_id}
 use Rattle.pf_model.specs.Interaction.{members_of}
 use Rattle.pf_model.specs.Group.{box_of}
@@ -36,12 +36,20 @@ ids_of u = map (λ p. p.id) (by_id u.particles)
 
 -- a state has the particles of the run, now and at the last build
 pub record HasAll (u : Setup) (now : State) : Type 0 where
-  pub bodies : map (λ d. d.body.id) now.bodies ≡ ids_of u
+  pub bodies : map (λ b. b.body.id) now.bodies ≡ ids_of u
   pub built : map (λ p. p.id) now.built ≡ ids_of u
 
 -- no particle is lost, gained or moved in the order by ids
 abbrev pub StatesKeepTheParticles : Type 0
 StatesKeepTheParticles = (u : Setup) (s : ℕ) (now : State) → state u s ≡ Some now → HasAll u now
+
+-- nor do they leave the limits of particles
+pub record KeepsLimits (now : State) : Type 0 where
+  pub bodies : All (λ b. IsParticle b.body) now.bodies
+  pub built : All IsParticle now.built
+
+abbrev pub StatesKeepTheLimits : Type 0
+StatesKeepTheLimits = (u : Setup) (s : ℕ) (now : State) → All IsParticle u.particles → state u s ≡ Some now → KeepsLimits now
 
 -- a run whose particles were read in another order
 abbrev pub with_particles : Setup → List Particle → Setup

@@ -14,7 +14,7 @@ use Rattle.run_model.specs.declared.step_text.BodyLine.{BodyLine}
 use Rattle.run_model.specs.declared.step_text.StepText.{StepText}
 use Rattle.run_model.specs.StepText.{step_text}
 use Rattle.run_model.specs.Setup.{Setup}
-use Rattle.run_model.specs.Run.{Driven, State, as_built, state}
+use Rattle.run_model.specs.Run.{WithForces, State, as_built, state}
 
 abbrev pub is_cell_entry : Entry → Bool
 is_cell_entry (Cell c m) = true
@@ -50,13 +50,13 @@ rank_counts u built rank = record {
 }
 
 -- a particle with its forces, and its owner at the build
-unfoldable pub body_row : Setup → List Particle → Driven → BodyLine
-body_row u built d = record {
-  id = d.body.id;
-  owner = owner u.grid built (as_built built d.body).at;
-  at = d.body.at;
-  vel = d.body.vel;
-  forces = d.forces;
+unfoldable pub body_row : Setup → List Particle → WithForces → BodyLine
+body_row u built b = record {
+  id = b.body.id;
+  owner = owner u.grid built (as_built built b.body).at;
+  at = b.body.at;
+  vel = b.body.vel;
+  forces = b.forces;
 }
 
 -- what the dump of step s tells of its state

@@ -1,7 +1,7 @@
 // The laws of the definitions, each the contract of a function that does nothing when it runs. A caller
 // whose proof needs a law calls its function.
 
-ghost use Rattle.run_model.specs.RunLaws.{StatesStandBeforeTheEnd, StatesKeepTheParticles, RunsIgnoreTheOrderRead, EachIsInOneEntryOfEachList};
+ghost use Rattle.run_model.specs.RunLaws.{StatesStandBeforeTheEnd, StatesKeepTheParticles, StatesKeepTheLimits, RunsIgnoreTheOrderRead, EachIsInOneEntryOfEachList};
 
 use pf_model::{each_is_in_one_entry, orders_by_id_are_one, orders_by_id_have_distinct_ids};
 
@@ -13,6 +13,11 @@ pub fn states_stand_before_the_end()
 /// No step loses a particle, or changes its place in the order by ids.
 pub fn states_keep_the_particles()
     ensures { StatesKeepTheParticles }
+{}
+
+/// No step takes a particle out of its limits.
+pub fn states_keep_the_limits()
+    ensures { StatesKeepTheLimits }
 {}
 
 /// The order in which particles are read changes nothing.
