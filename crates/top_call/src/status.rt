@@ -1,0 +1,33 @@
+ghost use Rattle.std.specs.Prelude.{◌≡◌};
+ghost use Rattle.top_call.specs.Status.{code_of};
+
+use kern_token::KernFault;
+use kern_types::TypeFault;
+use pf_geom::Axis as Fault;
+
+/// Why an input is refused: the first that is too large, or its first fault.
+#[derive(Clone, Copy, Debug, PartialEq, Eq, Hash)]
+pub enum Refusal {
+    KernelTooLarge,
+    Kernel(KernFault),
+    Types(TypeFault),
+}
+
+/// How a command ended.
+pub type Status = command_frame::Status<Refusal, Fault>;
+
+/// The exit status of the program.
+pub fn code(s: &Status) -> u8
+    ensures { result ≡ code_of s.now }
+{
+    match s {
+        Status::Done => 0,
+        Status::Usage => 2,
+        Status::Refused(_) => 3,
+        Status::Numeric(_, _) => 4,
+        Status::Lists(_, _) => 5,
+        Status::StoreFault(_) => 6,
+        Status::Memory => 7,
+        Status::NotBuilt(_) => 8,
+    }
+}
