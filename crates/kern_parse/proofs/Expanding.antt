@@ -6,9 +6,9 @@ use Rattle.kern_token.specs.declared.token.TokenKind.{TokenKind}
 use Rattle.kern_tree.specs.FirstFault.{brackets_after}
 use Rattle.kern_parse.specs.declared.operators.Level.{Level}
 use Rattle.kern_parse.specs.declared.operators.Level.TheVariants as levels
-use Rattle.kern_parse.specs.inner.Leading.{moves, chosen, are_optional, nodes_after, step, reads_on, Leads}
+use Rattle.kern_parse.specs.inner.Leading.{nodes_after, step, reads_on, Leads}
 use Rattle.kern_parse.specs.inner.Reading.{Reading, first_kind, next_kind}
-use Rattle.kern_parse.specs.Required.{Part, Move, move, and_then, is_optional, operand}
+use Rattle.kern_parse.specs.Required.{Part, Move, move, and_then, is_optional, operand, moves, chosen, are_optional}
 
 -- the same fault, where the next token leads to the same
 same_fault : (ps qs : List Part) (end nodes depth : ℕ) (rest : List Token) → are_optional ps ≡ are_optional qs

@@ -1,5 +1,5 @@
 -- The first fault that the table of moves finds is the first fault of the tokens, and tokens without one are a kernel's.
-use Rattle.std.proofs.Common.{◌≡◌, ◌⊎◌, ℕ, ◌+◌, ◌<◌, ◌≤◌, List, [], ◌∷◌, ◌++◌, length, take, slice_get, true, false, Option, Some, None, inl, inr, refl, sym, ap, ap₂, ◌∙◌, subst, append_assoc, append-nil, length-append, arith}
+use Rattle.std.proofs.Common.{◌≡◌, ◌⊎◌, ℕ, ◌+◌, ◌<◌, ◌≤◌, List, [], ◌∷◌, ◌++◌, length, take, slice_get, true, false, Option, Some, None, Result, Ok, Err, inl, inr, refl, sym, ap, ap₂, ◌∙◌, subst, append_assoc, append-nil, length-append, arith}
 use Rattle.std.specs.List.{AllByRecursion}
 use Rattle.kern_token.specs.declared.fault.KernFault.{KernFault}
 use Rattle.kern_token.specs.declared.fault.KernFault.TheVariants as faults
@@ -7,19 +7,20 @@ use Rattle.kern_token.specs.declared.token.Symbol.TheVariants as symbols
 use Rattle.kern_token.specs.declared.token.Token.{Token}
 use Rattle.kern_token.specs.declared.token.TokenKind.{TokenKind}
 use Rattle.kern_token.specs.declared.token.TokenKind.TheVariants as kinds
-use Rattle.kern_token.proofs.TokenPlaces.{Spells-stand, Spells-in_order}
-use Rattle.kern_token.specs.Reading.{AreInOrder, Spells, StandsIn}
+use Rattle.kern_token.specs.Reading.{AreInOrder, Spells, StandsIn, TokensAreInOrder, TokensStandInText}
 use Rattle.kern_tree.specs.declared.kernel.Kernel.{Kernel}
-use Rattle.kern_tree.specs.FirstFault.{CanGoOn, brackets_after, open_brackets, end_of, StopsAt, RunOut, IsTooDeep, IsTooManyNodes, HasFault, place_of, rank, IsNoLater, HasFirstFault, IsKernelOf}
+use Rattle.kern_tree.specs.FirstFault.{CanGoOn, brackets_after, open_brackets, end_of, StopsAt, IsTooDeep, IsTooManyNodes, HasFault, place_of, rank, IsNoLater, HasFirstFault, IsKernelOf, Parses}
 use Rattle.kern_tree.specs.Grammar.{SpellsKernel}
 use Rattle.kern_tree.specs.Nodes.{kernel_nodes}
-use Rattle.kern_parse.specs.inner.Leading.{moves, are_optional, reads_on, fault_of}
+use Rattle.kern_parse.specs.inner.Leading.{reads_on, fault_of}
 use Rattle.kern_parse.specs.inner.Reading.{Reading}
-use Rattle.kern_parse.specs.Required.{Part, Move}
+use Rattle.kern_parse.specs.ReadingStops.{SomeAnswer}
+use Rattle.kern_parse.specs.Required.{Part, Move, moves, are_optional}
 use Rattle.kern_parse.proofs.FirstTokens.{mark}
-use Rattle.kern_parse.proofs.GoingOn.{start_parts, Split, runs_append, runs_split, one_run, kernel_runs, can_go_on, runs_of, whole_runs, get_at, no_node_here}
+use Rattle.kern_parse.proofs.GoingOn.{start_parts, Split, runs_append, runs_split, one_run, kernel_runs, can_go_on, whole_runs, get_at, no_node_here}
 use Rattle.kern_parse.proofs.Outcomes.{depth_after, Passed, Outcome, passes, runs_out, refuses, too_deep, too_many, outcome}
 use Rattle.kern_parse.proofs.Runs.{Runs}
+use Rattle.kern_parse.proofs.Stopping.{kernel_here, run_out, stops_at}
 use Rattle.kern_parse.proofs.Standing.{AreLong, Seen, earlier, here, later, seen, stands_later, stands_before_end}
 
 -- where the reading of the tokens begins
@@ -95,16 +96,6 @@ whole tokens spelled h none = go (reads_on (end_of tokens) start_parts 0 0 token
 
 module _ (tokens : List Token) where
   module _ (those : List Part) (marks : List ℕ) (p : Done tokens those marks) (required : are_optional those ≡ false) where
-    run_out : RunOut tokens
-    run_out = record {
-      so_far = can_go_on tokens those marks p.runs;
-      not_whole = λ spelled h.
-          let w = whole_runs tokens spelled h in
-          let o = one_run start_parts tokens those w.0 marks (kernel_nodes spelled) p.runs w.1 in
-          let never : false ≡ true = sym required ∙ ap (λ ps. are_optional ps) o.0 ∙ w.2 in
-          absurd (cc);
-    }
-
     first_at_end : (other : KernFault) → HasFault tokens other → IsNoLater (faults.Unexpected (end_of tokens)) other
     first_at_end (faults.Unexpected place) (inl h) = let s : StopsAt tokens h.0 = h.2 in absurd (s.no_further (done_goes_on tokens those marks p s.before h.0 s.after s.stands))
     first_at_end (faults.Unexpected place) (inr h) = inr (sym h.0, omega arith)
@@ -117,21 +108,6 @@ module _ (tokens : List Token) where
   -- ---- a fault at a token
 
   module _ (before : List Token) (token : Token) (after : List Token) (those : List Part) (marks : List ℕ) (stands : tokens ≡ before ++ token ∷ after) (p : Done before those marks) where
-    stops_at : moves those token.kind ≡ None → StopsAt tokens token
-    stops_at none = record {
-      before = before;
-      after = after;
-      stands = stands;
-      so_far = can_go_on before those marks p.runs;
-      no_further = λ c.
-          let r = runs_of (before ++ token ∷ []) c in
-          let s = runs_split start_parts before (token ∷ []) r.0 r.1 r.2 in
-          let o = one_run start_parts before those s.those marks s.first p.runs s.runs in
-          let k = s.later in
-          let never : None ≡ Some k.0 = sym none ∙ ap (λ ps. moves ps token.kind) o.0 ∙ k.2 in
-          absurd (cc);
-    }
-
     depth_with : open_brackets (before ++ token ∷ []) ≡ brackets_after (depth_after 0 before) token.kind
     depth_with = depth_append 0 before (token ∷ [])
 
@@ -227,10 +203,10 @@ module _ (tokens : List Token) (in_order : AreInOrder 0 tokens) (long : AreLong 
   first_fault : (result : Option KernFault) (found : KernFault) → Outcome (end_of tokens) start_parts 0 0 tokens result → result ≡ Some found → HasFirstFault tokens found
   first_fault result found (passes those marks p optional e) is = absurd (let never : None ≡ Some found = sym e ∙ is in cc)
   first_fault result found (runs_out those marks p required e) is = subst (λ f. HasFirstFault tokens f) (same_fault (faults.Unexpected (end_of tokens)) found (sym e ∙ is))
-      (record { is_fault = inr (refl, run_out tokens those marks p required); first = first_at_end tokens those marks p required })
+      (record { is_fault = inr (refl, run_out tokens those marks p.runs required); first = first_at_end tokens those marks p required })
   first_fault result found (refuses before token after those marks stands p none e) is = subst (λ f. HasFirstFault tokens f) (same_fault (faults.Unexpected token.place) found (sym e ∙ is))
       (record {
-        is_fault = inl (token, refl, stops_at tokens before token after those marks stands p none);
+        is_fault = inl (token, refl, stops_at tokens before token after those marks stands p.runs none);
         first = first_at tokens before token after those marks stands p in_order long (faults.Unexpected token.place) refl (inl (omega arith)) (inl (omega arith)) (omega arith);
       })
   first_fault result found (too_deep before token after those marks move stands p moved deep e) is = subst (λ f. HasFirstFault tokens f) (same_fault (faults.TooDeep token.place) found (sym e ∙ is))
@@ -253,5 +229,17 @@ long_of text [] h = tt
 long_of text (token ∷ tokens) h = (h.0.nonempty, long_of text tokens h.1)
 
 -- the same of the tokens of a text
-pub fault_in_text : (text : List ℕ) (tokens : List Token) (found : KernFault) → Spells text tokens → fault_of (Part.Decls ∷ Part.Stmts ∷ []) (start tokens) ≡ Some found → HasFirstFault tokens found
-fault_in_text text tokens found h = fault tokens found (Spells-in_order text tokens h) (long_of text tokens (Spells-stand text tokens h))
+pub fault_in_text : TokensStandInText → TokensAreInOrder → (text : List ℕ) (tokens : List Token) (found : KernFault) → Spells text tokens → fault_of (Part.Decls ∷ Part.Stmts ∷ []) (start tokens) ≡ Some found → HasFirstFault tokens found
+fault_in_text stand in_order text tokens found h = fault tokens found (in_order text tokens h) (long_of text tokens (stand text tokens h))
+
+-- every text's tokens have an answer
+pub some_answer : TokensStandInText → TokensAreInOrder → SomeAnswer
+some_answer stand in_order text tokens h = go (reads_on (end_of tokens) start_parts 0 0 tokens) (outcome (end_of tokens) start_parts 0 0 tokens (omega arith) (omega arith)) refl
+  where
+    go : (result : Option KernFault) → Outcome (end_of tokens) start_parts 0 0 tokens result → reads_on (end_of tokens) start_parts 0 0 tokens ≡ result → (answer : Result Kernel KernFault) × Parses tokens answer
+    go (Some found) o is = (Err found, fault_in_text stand in_order text tokens found h is)
+    go None (passes those marks p optional e) is = let k = kernel_here tokens those marks p.runs optional in (Ok k.0, whole tokens k.0 k.1 is)
+    go None (runs_out those marks p required e) is = absurd (cc)
+    go None (refuses before token after those marks stands p refused e) is = absurd (cc)
+    go None (too_deep before token after those marks found stands p moved deep e) is = absurd (cc)
+    go None (too_many before token after those marks found stands p moved undeep is_node many e) is = absurd (cc)

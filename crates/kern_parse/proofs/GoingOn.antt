@@ -9,8 +9,7 @@ use Rattle.kern_tree.specs.FirstFault.{CanGoOn}
 use Rattle.kern_tree.specs.Grammar.{stmt, SpellsKernel}
 use Rattle.kern_tree.specs.Nodes.{stmt_nodes, kernel_nodes}
 use Rattle.kern_tree.specs.Rules.{many}
-use Rattle.kern_parse.specs.inner.Leading.{moves, are_optional}
-use Rattle.kern_parse.specs.Required.{Part, Move, move}
+use Rattle.kern_parse.specs.Required.{Part, Move, move, moves, are_optional}
 use Rattle.kern_parse.proofs.Fillings.{AllAt, fillings, fillings_at, all_filled}
 use Rattle.kern_parse.proofs.FirstTokens.{mark}
 use Rattle.kern_parse.proofs.MoreCompletions.{stack_completed}
@@ -102,13 +101,13 @@ kernel_runs tokens later spelled h = runs_to start_parts tokens later (kernel_no
 
 -- ---- what is run through can go on to a kernel
 
-runs_back : (parts : List Part) (tokens : List Token) (those : List Part) (places : List ℕ) → Runs parts tokens those places → (later : List Token) (all : List ℕ) → parts_rule those later all [] → (whole : List ℕ) × parts_rule parts (tokens ++ later) whole []
+pub runs_back : (parts : List Part) (tokens : List Token) (those : List Part) (places : List ℕ) → Runs parts tokens those places → (later : List Token) (all : List ℕ) → parts_rule those later all [] → (whole : List ℕ) × parts_rule parts (tokens ++ later) whole []
 runs_back parts [] those places h later all k = (all, subst (λ ps. parts_rule ps later all []) h.0 k)
 runs_back parts (token ∷ tokens) those places h later all k =
     let b = runs_back (h.0).then tokens those h.1 h.3 later all k in
     stack_completed parts token h.0 h.2 (tokens ++ later) b.0 [] b.1
 
-kernel_of : (tokens : List Token) (all : List ℕ) → parts_rule start_parts tokens all [] → (spelled : Kernel) × SpellsKernel tokens spelled
+pub kernel_of : (tokens : List Token) (all : List ℕ) → parts_rule start_parts tokens all [] → (spelled : Kernel) × SpellsKernel tokens spelled
 kernel_of tokens all h =
     let k = h.4 in
     (record { decls = (h.3).0; body = (k.3).0 }, ((h.3).0, h.1, (h.3).1, ((k.3).0, k.1, (k.3).1, (refl, k.4.1))))

@@ -18,6 +18,7 @@ pub mod Runs
 pub mod Standing
 pub mod Statements
 pub mod Steps
+pub mod Stopping
 pub mod Taking
 pub mod Telling
 pub mod Whole

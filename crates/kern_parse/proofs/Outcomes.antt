@@ -5,8 +5,8 @@ use Rattle.kern_token.specs.declared.fault.KernFault.{KernFault}
 use Rattle.kern_token.specs.declared.fault.KernFault.TheVariants as faults
 use Rattle.kern_token.specs.declared.token.Token.{Token}
 use Rattle.kern_tree.specs.FirstFault.{brackets_after}
-use Rattle.kern_parse.specs.inner.Leading.{moves, are_optional, nodes_after, counted, step, reads_on}
-use Rattle.kern_parse.specs.Required.{Part, Move}
+use Rattle.kern_parse.specs.inner.Leading.{nodes_after, counted, step, reads_on}
+use Rattle.kern_parse.specs.Required.{Part, Move, moves, are_optional}
 use Rattle.kern_parse.proofs.FirstTokens.{mark}
 use Rattle.kern_parse.proofs.Runs.{Runs}
 

@@ -8,8 +8,7 @@ use Rattle.kern_token.specs.declared.token.Word.TheVariants as words
 use Rattle.pf_geom.specs.declared.axis.Axis.{Axis}
 use Rattle.kern_parse.specs.declared.operators.Level.{Level}
 use Rattle.kern_parse.specs.declared.operators.Level.TheVariants as levels
-use Rattle.kern_parse.specs.inner.Leading.{moves}
-use Rattle.kern_parse.specs.Required.{Part, Move, move, and_then, more_move, same_symbol, exactly_move, axis_at, axis_move, operand as operand_part, is_optional}
+use Rattle.kern_parse.specs.Required.{Part, Move, move, and_then, more_move, same_symbol, exactly_move, axis_at, axis_move, operand as operand_part, is_optional, moves}
 use Rattle.kern_parse.proofs.Steps.{moves_refused, moves_passed}
 
 -- how weakly what a token of this kind joins to an expression is bound; 8 for one that joins nothing

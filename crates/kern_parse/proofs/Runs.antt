@@ -1,8 +1,7 @@
 -- Runs of the table: the parts that are required after some tokens, and the places of the nodes among them.
 use Rattle.std.proofs.Common.{◌≡◌, ◌⊎◌, ℕ, List, [], ◌∷◌, ◌++◌, true, ◌&&◌, IsTrue, Some, inl, inr, refl, sym, ap, ap₂, ◌∙◌, subst, append_assoc}
 use Rattle.kern_token.specs.declared.token.Token.{Token}
-use Rattle.kern_parse.specs.inner.Leading.{moves, are_optional}
-use Rattle.kern_parse.specs.Required.{Part, Move, move, is_optional}
+use Rattle.kern_parse.specs.Required.{Part, Move, move, is_optional, moves, are_optional}
 use Rattle.kern_parse.proofs.FirstTokens.{Goes, mark}
 use Rattle.kern_parse.proofs.MoreTokens.{part_goes}
 use Rattle.kern_parse.proofs.PartRules.{parts_rule, parts_append}

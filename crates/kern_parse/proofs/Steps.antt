@@ -5,9 +5,9 @@ use Rattle.kern_token.specs.declared.fault.KernFault.TheVariants as faults
 use Rattle.kern_token.specs.declared.token.Token.{Token}
 use Rattle.kern_token.specs.declared.token.TokenKind.{TokenKind}
 use Rattle.kern_tree.specs.FirstFault.{brackets_after}
-use Rattle.kern_parse.specs.inner.Leading.{moves, chosen, are_optional, nodes_after, step, reads_on, fault_of, Leads, Halts}
+use Rattle.kern_parse.specs.inner.Leading.{nodes_after, step, reads_on, fault_of, Leads, Halts}
 use Rattle.kern_parse.specs.inner.Reading.{Reading, first_kind, first_place, next_kind, next_place}
-use Rattle.kern_parse.specs.Required.{Part, Move, move, is_optional, Refuses}
+use Rattle.kern_parse.specs.Required.{Part, Move, move, is_optional, Refuses, moves, chosen, are_optional}
 
 -- ---- what may come next
 

@@ -9,9 +9,9 @@ use Rattle.kern_token.specs.declared.token.TokenKind.{TokenKind}
 use Rattle.kern_token.specs.declared.token.TokenKind.TheVariants as kinds
 use Rattle.kern_tree.specs.FirstFault.{brackets_after}
 use Rattle.kern_parse.specs.inner.Found.{ReadsToken}
-use Rattle.kern_parse.specs.inner.Leading.{moves, reads_on, fault_of, Leads, Halts}
+use Rattle.kern_parse.specs.inner.Leading.{reads_on, fault_of, Leads, Halts}
 use Rattle.kern_parse.specs.inner.Reading.{Reading, next_kind, first_kind, Takes, TakesNode, IsFull}
-use Rattle.kern_parse.specs.Required.{Part, move, plain_move, node_move, same_symbol, exactly_move, Refuses}
+use Rattle.kern_parse.specs.Required.{Part, move, plain_move, node_move, same_symbol, exactly_move, Refuses, moves}
 use Rattle.kern_parse.proofs.Steps.{moves_first, reads_plain, reads_node, reads_full, reads_deep, shallow_test, few_test, full_test, deep_test}
 
 some_is : {A : Type 0} {x y : A} → Some x ≡ Some y → x ≡ y

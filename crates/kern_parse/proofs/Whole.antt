@@ -5,19 +5,18 @@ use Rattle.kern_token.specs.declared.fault.KernFault.{KernFault}
 use Rattle.kern_token.specs.declared.fault.KernFault.TheVariants as faults
 use Rattle.kern_token.specs.declared.token.Token.{Token}
 use Rattle.kern_token.specs.declared.token.TokenKind.{TokenKind}
-use Rattle.kern_token.specs.Reading.{Spells, StandsIn, GivesUnlessMemory}
-use Rattle.kern_token.proofs.TokenPlaces.{Spells-stand}
+use Rattle.kern_token.specs.Reading.{Spells, StandsIn, GivesUnlessMemory, TokensAreInOrder, TokensStandInText}
 use Rattle.kern_tree.specs.declared.kernel.Decl.{Decl}
 use Rattle.kern_tree.specs.declared.kernel.Kernel.{Kernel}
 use Rattle.kern_tree.specs.declared.stmt.Stmt.{Stmt}
 use Rattle.kern_tree.specs.FirstFault.{IsKernelOf, HasFirstFault, Parses}
 use Rattle.kern_tree.specs.Grammar.{decl, stmt, stmt_within, SpellsKernel}
 use Rattle.kern_tree.specs.Rules.{Rule, many}
-use Rattle.kern_tree.proofs.OneAnswer.{one_answer}
+use Rattle.kern_tree.specs.OneAnswer.{OneAnswer}
 use Rattle.kern_parse.specs.inner.Found.{ReadsRule}
-use Rattle.kern_parse.specs.inner.Leading.{reads_on, are_optional, Leads, Fails}
+use Rattle.kern_parse.specs.inner.Leading.{reads_on, Leads, Fails}
 use Rattle.kern_parse.specs.inner.Reading.{Reading, AreInLimit, first_kind, next_kind, first_place, next_place}
-use Rattle.kern_parse.specs.Required.{Part}
+use Rattle.kern_parse.specs.Required.{Part, are_optional}
 use Rattle.kern_parse.specs.inner.Stmts.{ReadsStmts}
 use Rattle.kern_parse.proofs.FirstFaults.{start, whole, fault_in_text}
 use Rattle.kern_parse.proofs.Following.{leads_then, leads_first}
@@ -28,8 +27,8 @@ limits : (text : List ℕ) (tokens : List Token) → AllByRecursion (StandsIn te
 limits text [] h = tt
 limits text (token ∷ tokens) h = (h.0.in_limit, limits text tokens h.1)
 
-pub in_limit : (text : List ℕ) (tokens : List Token) → Spells text tokens → AreInLimit tokens
-in_limit text tokens h = limits text tokens (Spells-stand text tokens h)
+pub in_limit : TokensStandInText → (text : List ℕ) (tokens : List Token) → Spells text tokens → AreInLimit tokens
+in_limit stand text tokens h = limits text tokens (stand text tokens h)
 
 many_wider : {A : Type 0} (one other : Rule A) → ((tokens : List Token) (value : A) (rest : List Token) → one tokens value rest → other tokens value rest)
     → (tokens : List Token) (values : List A) (rest : List Token) → many one tokens values rest → many other tokens values rest
@@ -65,24 +64,24 @@ kernel_read tokens decls body mid last declared stated none =
     let lead = leads_then (read_leads tokens decls mid declared) stated.reads.leads in
     whole tokens (record { decls = decls; body = body }) spelled (lead.goes [] ∙ nothing_left last.end last.nodes last.depth last.rest none)
 
-pub rest_read : (text : List ℕ) (tokens : List Token) (decls : List Decl) (body : List Stmt) (mid last : Reading) (kind : TokenKind) → Spells text tokens → ReadsRule (many decl) (Part.Decls ∷ []) (start tokens) decls mid → ReadsStmts mid body last
+pub rest_read : TokensStandInText → TokensAreInOrder → (text : List ℕ) (tokens : List Token) (decls : List Decl) (body : List Stmt) (mid last : Reading) (kind : TokenKind) → Spells text tokens → ReadsRule (many decl) (Part.Decls ∷ []) (start tokens) decls mid → ReadsStmts mid body last
     → next_kind last ≡ Some kind → HasFirstFault tokens (faults.Unexpected (next_place last))
-rest_read text tokens decls body mid last kind h declared stated some =
+rest_read stand in_order text tokens decls body mid last kind h declared stated some =
     let lead = leads_then (read_leads tokens decls mid declared) stated.reads.leads in
-    fault_in_text text tokens (faults.Unexpected (next_place last)) h (lead.goes [] ∙ something_left last.end last.nodes last.depth last.rest kind some)
+    fault_in_text stand in_order text tokens (faults.Unexpected (next_place last)) h (lead.goes [] ∙ something_left last.end last.nodes last.depth last.rest kind some)
 
 -- a fault in the parts of a kernel is its first
-pub fault_read : (text : List ℕ) (tokens : List Token) (found : KernFault) → Spells text tokens → Fails (Part.Decls ∷ Part.Stmts ∷ []) (start tokens) found
+pub fault_read : TokensStandInText → TokensAreInOrder → (text : List ℕ) (tokens : List Token) (found : KernFault) → Spells text tokens → Fails (Part.Decls ∷ Part.Stmts ∷ []) (start tokens) found
     → (found ≡ faults.Memory) ⊎ HasFirstFault tokens found
-fault_read text tokens found h (inl memory) = inl memory
-fault_read text tokens found h (inr halts) = inr (fault_in_text text tokens found h (halts.halts []))
+fault_read stand in_order text tokens found h (inl memory) = inl memory
+fault_read stand in_order text tokens found h (inr halts) = inr (fault_in_text stand in_order text tokens found h (halts.halts []))
 
 -- ---- the one answer
 
-pub gives : (tokens : List Token) (found : Kernel) (parsed : Result Kernel KernFault) → IsKernelOf tokens found → Parses tokens parsed → parsed ≡ Ok found
-gives tokens found parsed is parses = one_answer tokens parsed (Ok found) parses is
+pub gives : OneAnswer → (tokens : List Token) (found : Kernel) (parsed : Result Kernel KernFault) → IsKernelOf tokens found → Parses tokens parsed → parsed ≡ Ok found
+gives one tokens found parsed is parses = one tokens parsed (Ok found) parses is
 
-pub gives_fault : (tokens : List Token) (found : KernFault) (parsed : Result Kernel KernFault) → (found ≡ faults.Memory) ⊎ HasFirstFault tokens found → Parses tokens parsed
+pub gives_fault : OneAnswer → (tokens : List Token) (found : KernFault) (parsed : Result Kernel KernFault) → (found ≡ faults.Memory) ⊎ HasFirstFault tokens found → Parses tokens parsed
     → GivesUnlessMemory {X = Kernel} (λ kernel. kernel) (Err found) parsed
-gives_fault tokens found parsed (inl memory) parses = inl memory
-gives_fault tokens found parsed (inr first) parses = inr (one_answer tokens parsed (Err found) parses first)
+gives_fault one tokens found parsed (inl memory) parses = inl memory
+gives_fault one tokens found parsed (inr first) parses = inr (one tokens parsed (Err found) parses first)

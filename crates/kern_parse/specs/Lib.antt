@@ -1,3 +1,4 @@
+pub mod ReadingStops
 pub mod Required
 pub mod inner
 pub use Rattle.kern_tree.specs.FirstFault

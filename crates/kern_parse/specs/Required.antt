@@ -1,6 +1,6 @@
 -- What the grammar requires at a place of the text: parts, the first of which comes next. The next
 -- token decides how the reading goes on.
-use Rattle.std.specs.Prelude.{◌≡◌, ℕ, codes, List, [], ◌∷◌, ◌++◌, Bool, true, false, cond, Option, Some, None}
+use Rattle.std.specs.Prelude.{◌≡◌, ℕ, codes, List, [], ◌∷◌, ◌++◌, Bool, true, false, ◌&&◌, cond, Option, Some, None}
 use Rattle.std.specs.Str.{bytes_eq}
 use Rattle.pf_geom.specs.declared.axis.Axis.{Axis}
 use Rattle.pf_geom.specs.declared.axis.Axis.TheVariants as axes
@@ -80,11 +80,21 @@ abbrev pub and_then : Option Move → List Part → Option Move
 and_then None parts = None
 and_then (Some move) parts = Some (record { then = move.then ++ parts; is_node = move.is_node })
 
+-- what stands after EPI and after EPJ
+abbrev pub field_parts : List Part
+field_parts =
+    Part.KindWord ∷ Part.Scale ∷ Part.Name ∷ Part.Exactly symbols.Colon ∷ Part.Name
+    ∷ Part.Exactly symbols.Semicolon ∷ Part.Decls ∷ []
+
 abbrev pub decl_move : Word → Option Move
-decl_move words.Epi = node_move (Part.KindWord ∷ Part.Scale ∷ Part.Name ∷ Part.Exactly symbols.Colon ∷ Part.Name ∷ Part.Exactly symbols.Semicolon ∷ Part.Decls ∷ [])
-decl_move words.Epj = node_move (Part.KindWord ∷ Part.Scale ∷ Part.Name ∷ Part.Exactly symbols.Colon ∷ Part.Name ∷ Part.Exactly symbols.Semicolon ∷ Part.Decls ∷ [])
-decl_move words.Force = node_move (Part.KindWord ∷ Part.Scale ∷ Part.Name ∷ Part.CombineWord ∷ Part.Exactly symbols.Semicolon ∷ Part.Decls ∷ [])
-decl_move words.Param = node_move (Part.Scale ∷ Part.Name ∷ Part.Exactly symbols.Assign ∷ Part.Signed ∷ Part.Exactly symbols.Semicolon ∷ Part.Decls ∷ [])
+decl_move words.Epi = node_move field_parts
+decl_move words.Epj = node_move field_parts
+decl_move words.Force =
+    node_move (Part.KindWord ∷ Part.Scale ∷ Part.Name ∷ Part.CombineWord
+    ∷ Part.Exactly symbols.Semicolon ∷ Part.Decls ∷ [])
+decl_move words.Param =
+    node_move (Part.Scale ∷ Part.Name ∷ Part.Exactly symbols.Assign ∷ Part.Signed
+    ∷ Part.Exactly symbols.Semicolon ∷ Part.Decls ∷ [])
 decl_move _ = None
 
 abbrev pub kind_move : Word → Option Move
@@ -98,14 +108,34 @@ combine_move words.Max = plain_move []
 combine_move words.Min = plain_move []
 combine_move _ = None
 
+-- what stands after the word of a call, by the number of its expressions
+abbrev pub one_argument : List Part
+one_argument = Part.Exactly symbols.OpenRound ∷ Part.Chain levels.Or ∷ Part.Exactly symbols.CloseRound ∷ []
+
+abbrev pub two_arguments : List Part
+two_arguments =
+    Part.Exactly symbols.OpenRound ∷ Part.Chain levels.Or ∷ Part.Exactly symbols.Comma ∷ Part.Chain levels.Or
+    ∷ Part.Exactly symbols.CloseRound ∷ []
+
+abbrev pub three_arguments : List Part
+three_arguments =
+    Part.Exactly symbols.OpenRound ∷ Part.Chain levels.Or ∷ Part.Exactly symbols.Comma ∷ Part.Chain levels.Or
+    ∷ Part.Exactly symbols.Comma ∷ Part.Chain levels.Or ∷ Part.Exactly symbols.CloseRound ∷ []
+
+-- and after `to`
+abbrev pub rescale_arguments : List Part
+rescale_arguments =
+    Part.Exactly symbols.OpenRound ∷ Part.Number ∷ Part.Exactly symbols.Comma ∷ Part.Chain levels.Or
+    ∷ Part.Exactly symbols.CloseRound ∷ []
+
 abbrev pub call_move : Word → Option Move
-call_move words.Isqrt = node_move (Part.Exactly symbols.OpenRound ∷ Part.Chain levels.Or ∷ Part.Exactly symbols.CloseRound ∷ [])
-call_move words.Abs = node_move (Part.Exactly symbols.OpenRound ∷ Part.Chain levels.Or ∷ Part.Exactly symbols.CloseRound ∷ [])
-call_move words.To = node_move (Part.Exactly symbols.OpenRound ∷ Part.Number ∷ Part.Exactly symbols.Comma ∷ Part.Chain levels.Or ∷ Part.Exactly symbols.CloseRound ∷ [])
-call_move words.Min = node_move (Part.Exactly symbols.OpenRound ∷ Part.Chain levels.Or ∷ Part.Exactly symbols.Comma ∷ Part.Chain levels.Or ∷ Part.Exactly symbols.CloseRound ∷ [])
-call_move words.Max = node_move (Part.Exactly symbols.OpenRound ∷ Part.Chain levels.Or ∷ Part.Exactly symbols.Comma ∷ Part.Chain levels.Or ∷ Part.Exactly symbols.CloseRound ∷ [])
-call_move words.Muldiv = node_move (Part.Exactly symbols.OpenRound ∷ Part.Chain levels.Or ∷ Part.Exactly symbols.Comma ∷ Part.Chain levels.Or ∷ Part.Exactly symbols.Comma ∷ Part.Chain levels.Or ∷ Part.Exactly symbols.CloseRound ∷ [])
-call_move words.Vec = node_move (Part.Exactly symbols.OpenRound ∷ Part.Chain levels.Or ∷ Part.Exactly symbols.Comma ∷ Part.Chain levels.Or ∷ Part.Exactly symbols.Comma ∷ Part.Chain levels.Or ∷ Part.Exactly symbols.CloseRound ∷ [])
+call_move words.Isqrt = node_move one_argument
+call_move words.Abs = node_move one_argument
+call_move words.To = node_move rescale_arguments
+call_move words.Min = node_move two_arguments
+call_move words.Max = node_move two_arguments
+call_move words.Muldiv = node_move three_arguments
+call_move words.Vec = node_move three_arguments
 call_move _ = None
 
 abbrev pub exactly_move : Bool → Option Move
@@ -178,13 +208,16 @@ relation_move symbols.Ne = node_move (Part.Chain levels.Sum ∷ [])
 relation_move _ = None
 
 abbrev pub stmts_move : TokenKind → Option Move
-stmts_move (kinds.Name name) = node_move (Part.Assign ∷ Part.Chain levels.Or ∷ Part.Exactly symbols.Semicolon ∷ Part.Stmts ∷ [])
+stmts_move (kinds.Name name) =
+    node_move (Part.Assign ∷ Part.Chain levels.Or ∷ Part.Exactly symbols.Semicolon ∷ Part.Stmts ∷ [])
 stmts_move (kinds.Word words.If) = node_move (Part.Chain levels.Or ∷ Part.Block ∷ Part.ElseBlock ∷ Part.Stmts ∷ [])
 stmts_move _ = None
 
 -- the axis that a component's name tells
 abbrev pub axis_at : List ℕ → Option Axis
-axis_at name = cond (bytes_eq name (codes "x")) (Some axes.X) (cond (bytes_eq name (codes "y")) (Some axes.Y) (cond (bytes_eq name (codes "z")) (Some axes.Z) None))
+axis_at name =
+    cond (bytes_eq name (codes "x")) (Some axes.X)
+    (cond (bytes_eq name (codes "y")) (Some axes.Y) (cond (bytes_eq name (codes "z")) (Some axes.Z) None))
 
 abbrev pub axis_move : Option Axis → Option Move
 axis_move (Some along) = plain_move []
@@ -233,3 +266,20 @@ is_optional _ = false
 abbrev pub Refuses : Part → Option TokenKind → Type 0
 Refuses part None = Unit {0}
 Refuses part (Some kind) = move part kind ≡ None
+
+-- ---- several parts, the first of which comes next
+
+-- what is required after a token of this kind, where it is one of those that may come next
+abbrev pub chosen : Option Move → Bool → List Part → Option Move → Option Move
+chosen (Some found) optional parts later = Some (record { then = found.then ++ parts; is_node = found.is_node })
+chosen None true parts later = later
+chosen None false parts later = None
+
+unfoldable pub moves : List Part → TokenKind → Option Move
+moves [] kind = None
+moves (part ∷ parts) kind = chosen (move part kind) (is_optional part) parts (moves parts kind)
+
+-- whether nothing need stand for any of them
+unfoldable pub are_optional : List Part → Bool
+are_optional [] = true
+are_optional (part ∷ parts) = is_optional part && are_optional parts

@@ -87,7 +87,8 @@ impl Reader<'_> {
 
     fn declaration(&mut self, start: Start) -> Result<Decl, KernFault>
         requires { next_kind self.old ≡ Some (TokenKind.Word (word_of start)) }
-        ensures { MatchResult result (λ d. ReadsDecl self.old d self.new) (λ fault. Fails (Part.Decls ∷ []) self.old fault) }
+        ensures { MatchResult result (λ d. ReadsDecl self.old d self.new)
+            (λ fault. Fails (Part.Decls ∷ []) self.old fault) }
     {
         match start {
             Start::Field(side) => self.field(side),
@@ -98,7 +99,8 @@ impl Reader<'_> {
 
     fn field(&mut self, side: Side) -> Result<Decl, KernFault>
         requires { next_kind self.old ≡ Some (TokenKind.Word (word_of (Start.Field side))) }
-        ensures { MatchResult result (λ d. ReadsDecl self.old d self.new) (λ fault. Fails (Part.Decls ∷ []) self.old fault) }
+        ensures { MatchResult result (λ d. ReadsDecl self.old d self.new)
+            (λ fault. Fails (Part.Decls ∷ []) self.old fault) }
     {
         let place = self.node()?;
         let kind = self.kind()?;
@@ -116,7 +118,8 @@ impl Reader<'_> {
 
     fn force(&mut self) -> Result<Decl, KernFault>
         requires { next_kind self.old ≡ Some (TokenKind.Word Word.Force) }
-        ensures { MatchResult result (λ d. ReadsDecl self.old d self.new) (λ fault. Fails (Part.Decls ∷ []) self.old fault) }
+        ensures { MatchResult result (λ d. ReadsDecl self.old d self.new)
+            (λ fault. Fails (Part.Decls ∷ []) self.old fault) }
     {
         let place = self.node()?;
         let kind = self.kind()?;
@@ -133,7 +136,8 @@ impl Reader<'_> {
 
     fn constant(&mut self) -> Result<Decl, KernFault>
         requires { next_kind self.old ≡ Some (TokenKind.Word Word.Param) }
-        ensures { MatchResult result (λ d. ReadsDecl self.old d self.new) (λ fault. Fails (Part.Decls ∷ []) self.old fault) }
+        ensures { MatchResult result (λ d. ReadsDecl self.old d self.new)
+            (λ fault. Fails (Part.Decls ∷ []) self.old fault) }
     {
         let place = self.node()?;
         let scale = self.scale()?;

@@ -1,9 +1,10 @@
 ghost use Rattle.std.specs.Prelude.{◌≡◌, [], ◌∷◌, Some, MatchResult};
 ghost use Rattle.kern_tree.specs.Grammar.{axis, to_scale};
-ghost use Rattle.kern_parse.specs.inner.Found.{ReadsRule, ReadsExpr, ReadsCall, ReadsBracketed, IsCalled, arguments, scale_if_any};
+ghost use Rattle.kern_parse.specs.inner.Found.{ReadsRule, ReadsExpr, ReadsCall, ReadsBracketed, IsCalled, arguments};
+ghost use Rattle.kern_parse.specs.inner.Found.{scale_if_any};
 ghost use Rattle.kern_parse.specs.inner.Leading.{Fails};
 ghost use Rattle.kern_parse.specs.inner.Reading.{next_kind};
-ghost use Rattle.kern_parse.specs.Required.{Part, operand, axis_at};
+ghost use Rattle.kern_parse.specs.Required.{Part, one_argument, operand, axis_at};
 
 use crate::kinds::{name_in, scale_in};
 use crate::operators::{Call, Level, binary, call_of, prefix, relation};
@@ -106,7 +107,7 @@ impl Reader<'_> {
     #[cycle(expression)]
     fn bracketed(&mut self) -> Result<Expr, KernFault>
         ensures { MatchResult result (λ e. ReadsBracketed self.old e self.new)
-            (λ fault. Fails (Part.Exactly Symbol.OpenRound ∷ Part.Chain Level.Or ∷ Part.Exactly Symbol.CloseRound ∷ []) self.old fault) }
+            (λ fault. Fails one_argument self.old fault) }
     {
         self.open_bracket(Symbol::OpenRound)?;
         let inner = self.chain(Level::Or)?;

@@ -5,6 +5,7 @@
 mod declaration;
 mod expression;
 mod kinds;
+mod laws;
 mod nodes;
 mod operators;
 mod reader;
@@ -14,4 +15,5 @@ mod statement;
 pub use kern_print::{canonical_reads_back, print};
 pub use kern_token::{KernFault, Name, Token};
 pub use kern_tree::{Act, Combine, Decl, DeclKind, Expr, Form, Kernel, Kind, Op1, Op2, Op3, Stmt};
+pub use laws::{some_answer, unexpected_is_the_stop};
 pub use reading::parse;

@@ -1,4 +1,5 @@
-ghost use Rattle.std.specs.Prelude.{◌≡◌, ◌<◌, ◌≤◌, ◌^◌, ◌+◌, ◌-◌, ◌↔◌, ◌⊎◌, ℕ, [], ◌∷◌, Some, IsSome, IsTrue, MatchOption, IfOk, IfErr, OnOk};
+ghost use Rattle.std.specs.Prelude.{◌≡◌, ◌<◌, ◌≤◌, ◌^◌, ◌+◌, ◌-◌, ◌↔◌, ◌⊎◌, ℕ, [], ◌∷◌, Some, IsSome, IsTrue};
+ghost use Rattle.std.specs.Prelude.{MatchOption, IfOk, IfErr, OnOk};
 ghost use Rattle.std.specs.Option.{option_copied};
 ghost use Rattle.kern_token.specs.declared.fault.KernFault.TheVariants.{Memory};
 ghost use Rattle.kern_tree.specs.FirstFault.{brackets_after, end_of};

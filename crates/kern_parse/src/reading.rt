@@ -7,6 +7,8 @@ ghost use Rattle.kern_tree.specs.declared.kernel.Kernel.{Kernel};
 
 use crate::reader::Reader;
 use crate::{KernFault, Kernel, Token};
+use kern_token::tokens_stand_in_order;
+use kern_tree::one_answer;
 use std::alloc::Global;
 
 /// The kernel that the tokens of a text spell. Where they spell none, or one past a limit, the
@@ -19,6 +21,8 @@ pub fn parse(alloc: Global, toks: &[Token]) -> Result<Kernel, KernFault>
     ensures exact { (parsed : Result Kernel KernFault) → Parses toks.now parsed
         → GivesUnlessMemory (λ kernel. kernel) result parsed }
 {
+    tokens_stand_in_order();
+    one_answer();
     let mut reader = Reader::new(alloc, toks);
     let decls = reader.declarations()?;
     let body = reader.statements()?;

@@ -31,10 +31,14 @@ abbrev pub typed_name : Kind → ℕ → List ℕ → List ℕ
 typed_name kind scale name = kind_text kind ++ codes " S" ++ decimal scale ++ codes " " ++ name
 
 abbrev pub declared_text : DeclKind → List ℕ → List ℕ
-declared_text (declared_kinds.Epi kind scale field) name = codes "EPI " ++ typed_name kind scale name ++ codes " : " ++ field
-declared_text (declared_kinds.Epj kind scale field) name = codes "EPJ " ++ typed_name kind scale name ++ codes " : " ++ field
-declared_text (declared_kinds.Force kind scale combine) name = codes "FORCE " ++ typed_name kind scale name ++ codes " " ++ combine_text combine
-declared_text (declared_kinds.Param scale value) name = codes "PARAM S" ++ decimal scale ++ codes " " ++ name ++ codes " = " ++ signed_decimal value
+declared_text (declared_kinds.Epi kind scale field) name =
+    codes "EPI " ++ typed_name kind scale name ++ codes " : " ++ field
+declared_text (declared_kinds.Epj kind scale field) name =
+    codes "EPJ " ++ typed_name kind scale name ++ codes " : " ++ field
+declared_text (declared_kinds.Force kind scale combine) name =
+    codes "FORCE " ++ typed_name kind scale name ++ codes " " ++ combine_text combine
+declared_text (declared_kinds.Param scale value) name =
+    codes "PARAM S" ++ decimal scale ++ codes " " ++ name ++ codes " = " ++ signed_decimal value
 
 -- a declaration's line
 abbrev pub decl_text : Decl → List ℕ
@@ -60,7 +64,9 @@ else_lines (lines ∷ more) depth = line depth (codes "} else {") ++ block_lines
 abbrev pub act_lines : Act-F Lines Lines → Lines
 act_lines (acts.Set name value) depth = line depth (name ++ codes " = " ++ expr_text value ++ codes ";")
 act_lines (acts.Give name value) depth = line depth (name ++ codes " += " ++ expr_text value ++ codes ";")
-act_lines (acts.If condition block other) depth = line depth (codes "if " ++ expr_text condition ++ codes " {") ++ block_lines block (depth + 1) ++ else_lines other depth ++ line depth (codes "}")
+act_lines (acts.If condition block other) depth =
+    line depth (codes "if " ++ expr_text condition ++ codes " {") ++ block_lines block (depth + 1)
+    ++ else_lines other depth ++ line depth (codes "}")
 
 abbrev pub lines_of : Stmt-F Lines Lines → Lines
 lines_of stmt = stmt.act

@@ -102,7 +102,8 @@ form_text (forms.To scale a) = codes "to(" ++ decimal scale ++ codes ", " ++ a 1
 
 -- brackets stand where the level is lower than the one that is needed
 abbrev pub in_brackets : Form-F Operand Operand → Operand
-in_brackets form needed = if nat_lt (level form) needed then codes "(" ++ form_text form ++ codes ")" else form_text form
+in_brackets form needed =
+    if nat_lt (level form) needed then codes "(" ++ form_text form ++ codes ")" else form_text form
 
 abbrev pub operand_of : Expr-F Operand Operand → Operand
 operand_of expr = expr.form

@@ -18,4 +18,6 @@ pub record ReadsAs (kernel : Kernel) (text : List ℕ) : Type 0 where
 -- Of a kernel that some text spells within the limits, the canonical text reads as this kernel again, but
 -- for places.
 abbrev pub CanonicalReadsBack : Type 0
-CanonicalReadsBack = (text : List ℕ) (tokens : List Token) (kernel : Kernel) → Spells text tokens → Parses tokens (Ok kernel) → ReadsAs kernel (canonical_text kernel)
+CanonicalReadsBack =
+    (text : List ℕ) (tokens : List Token) (kernel : Kernel) → Spells text tokens → Parses tokens (Ok kernel)
+    → ReadsAs kernel (canonical_text kernel)

@@ -1,6 +1,8 @@
 ghost use Rattle.std.specs.Prelude.{◌≡◌, ◌++◌, OnOk};
 ghost use Rattle.kern_tree.specs.declared.expr.Form.{out-Form};
-ghost use Rattle.kern_print.specs.Expressions.{Operand, axis_text, expr_text, form_operand, level, literal_text, one_text, operand_text, operator_level, prefix_level, three_text, two_text};
+ghost use Rattle.kern_print.specs.Expressions.{Operand, axis_text, expr_text, form_operand, level, literal_text};
+ghost use Rattle.kern_print.specs.Expressions.{one_text, operand_text, operator_level, prefix_level, three_text};
+ghost use Rattle.kern_print.specs.Expressions.{two_text};
 
 use crate::frame::{axis_bytes, frame_of_one, frame_of_two, head_of_three};
 use crate::pushing::{push_number, push_text};

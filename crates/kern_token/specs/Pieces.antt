@@ -1,5 +1,6 @@
 -- What a kernel text consists of: tokens, and the blanks and comments that separate them.
-use Rattle.std.specs.Prelude.{◌≡◌, ◌≢◌, ℕ, ◌≤◌, Bool, ◌||◌, ◌==◌, ◌⊎◌, IsTrue, List, [], ◌∷◌, ◌++◌, length, Option, MatchOption}
+use Rattle.std.specs.Prelude.{◌≡◌, ◌≢◌, ℕ, ◌≤◌, Bool, ◌||◌, ◌==◌, ◌⊎◌, IsTrue, List, [], ◌∷◌, ◌++◌, length, Option}
+use Rattle.std.specs.Prelude.{MatchOption}
 use Rattle.std.specs.Char.{is_ascii_alphabetic, is_ascii_digit}
 use Rattle.std.specs.Fmt.{decimal}
 use Rattle.std.specs.List.{AllByRecursion}
@@ -63,4 +64,5 @@ IsPiece piece = MatchOption piece.kind (IsSeparator piece.bytes) (λ kind. IsTok
 pub record Begins (text : List ℕ) (piece : Piece) (rest : List ℕ) : Type 0 where
   pub whole : IsPiece piece
   pub front : text ≡ piece.bytes ++ rest
-  pub longest : (other : Piece) (after : List ℕ) → IsPiece other → text ≡ other.bytes ++ after → length other.bytes ≤ length piece.bytes
+  pub longest : (other : Piece) (after : List ℕ) → IsPiece other → text ≡ other.bytes ++ after
+      → length other.bytes ≤ length piece.bytes

@@ -1,6 +1,7 @@
 -- The tokens that a kernel text spells, or its first fault.
-use Rattle.std.specs.Prelude.{◌≡◌, ℕ, ◌+◌, ◌<◌, ◌≤◌, ◌^◌, ◌⊎◌, List, [], ◌∷◌, ◌++◌, length, Option, Some, None, Result, Ok, Err, IfSome}
-use Rattle.std.specs.List.{slice_range}
+use Rattle.std.specs.Prelude.{◌≡◌, ℕ, ◌+◌, ◌<◌, ◌≤◌, ◌^◌, ◌⊎◌, List, [], ◌∷◌, ◌++◌, length, Option, Some, None, Result}
+use Rattle.std.specs.Prelude.{Ok, Err, IfSome}
+use Rattle.std.specs.List.{AllByRecursion, slice_range}
 use Rattle.kern_token.specs.declared.fault.KernFault.{KernFault}
 use Rattle.kern_token.specs.declared.fault.KernFault.TheVariants as faults
 use Rattle.kern_token.specs.declared.token.Token.{Token}
@@ -19,7 +20,8 @@ IsInLimit (kinds.Symbol symbol) = Unit {0}
 -- the text is these pieces, each the longest at its place, and then the rest
 abbrev pub Splits : List ℕ → List Piece → List ℕ → Type 0
 Splits text [] rest = text ≡ rest
-Splits text (piece ∷ pieces) rest = (after : List ℕ) × Begins text piece after × IfSome piece.kind IsInLimit × Splits after pieces rest
+Splits text (piece ∷ pieces) rest =
+    (after : List ℕ) × Begins text piece after × IfSome piece.kind IsInLimit × Splits after pieces rest
 
 -- the place after the pieces that begin at this place
 abbrev pub place_after : ℕ → List Piece → ℕ
@@ -34,7 +36,8 @@ token_of place end (Some kind) = record { kind = kind; place = place; end = end 
 -- the tokens among the pieces that begin at this place
 abbrev pub tokens_of : ℕ → List Piece → List Token
 tokens_of place [] = []
-tokens_of place (piece ∷ pieces) = token_of place (place + length piece.bytes) piece.kind ++ tokens_of (place + length piece.bytes) pieces
+tokens_of place (piece ∷ pieces) =
+    token_of place (place + length piece.bytes) piece.kind ++ tokens_of (place + length piece.bytes) pieces
 
 -- the whole text is pieces, and these tokens are among them
 pub record Spells (text : List ℕ) (tokens : List Token) : Type 0 where
@@ -92,3 +95,11 @@ AreInOrder place (token ∷ tokens) = (place ≤ token.place) × AreInOrder toke
 abbrev pub GivesUnlessMemory : {X Y : Type 0} → (X → Y) → Result X KernFault → Result Y KernFault → Type 0
 GivesUnlessMemory view (Ok x) reading = reading ≡ Ok (view x)
 GivesUnlessMemory view (Err fault) reading = (fault ≡ faults.Memory) ⊎ (reading ≡ Err fault)
+
+-- the tokens of a text stand in it, each where its place and end say
+abbrev pub TokensStandInText : Type 0
+TokensStandInText = (text : List ℕ) (tokens : List Token) → Spells text tokens → AllByRecursion (StandsIn text) tokens
+
+-- and one after another
+abbrev pub TokensAreInOrder : Type 0
+TokensAreInOrder = (text : List ℕ) (tokens : List Token) → Spells text tokens → AreInOrder 0 tokens

@@ -1,7 +1,6 @@
 ghost use Rattle.std.specs.Prelude.{◌≡◌, ℕ, List, ◌++◌, Result};
-ghost use Rattle.std.specs.List.{AllByRecursion};
 ghost use Rattle.kern_token.specs.Pieces.{Piece, IsPiece, Begins};
-ghost use Rattle.kern_token.specs.Reading.{Spells, Reads, StandsIn, AreInOrder};
+ghost use Rattle.kern_token.specs.Reading.{Reads, TokensStandInText, TokensAreInOrder};
 ghost use Rattle.kern_token.specs.Stopping.{StopsBefore};
 ghost use Rattle.kern_token.specs.declared.fault.KernFault.{KernFault};
 ghost use Rattle.kern_token.specs.declared.token.Token.{Token};
@@ -15,10 +14,8 @@ pub fn one_reading()
 
 /// The tokens of a text stand in it one after another, each where its place and end say.
 pub fn tokens_stand_in_order()
-    ensures stand { (text : List ℕ) (tokens : List Token) → Spells text tokens
-        → AllByRecursion (StandsIn text) tokens }
-    ensures in_order { (text : List ℕ) (tokens : List Token) → Spells text tokens
-        → AreInOrder 0 tokens }
+    ensures stand { TokensStandInText }
+    ensures in_order { TokensAreInOrder }
 {}
 
 /// A piece is the longest at its place where the byte after it can't go on with it.

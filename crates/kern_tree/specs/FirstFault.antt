@@ -1,5 +1,6 @@
 -- What parsing answers: the kernel that the tokens spell, or their first fault.
-use Rattle.std.specs.Prelude.{◌≡◌, ◌⊎◌, ℕ, ◌+◌, ◌-◌, ◌<◌, ◌≤◌, List, [], ◌∷◌, ◌++◌, length, take, fold, slice_get, Some, Result, Ok, Err}
+use Rattle.std.specs.Prelude.{◌≡◌, ◌⊎◌, ℕ, ◌+◌, ◌-◌, ◌<◌, ◌≤◌, List, [], ◌∷◌, ◌++◌, length, take, fold, slice_get, Some}
+use Rattle.std.specs.Prelude.{Result, Ok, Err}
 use Rattle.kern_token.specs.declared.fault.KernFault.{KernFault}
 use Rattle.kern_token.specs.declared.fault.KernFault.TheVariants as faults
 use Rattle.kern_token.specs.declared.token.Symbol.TheVariants as symbols
@@ -67,7 +68,8 @@ pub record IsTooManyNodes (tokens : List Token) (token : Token) : Type 0 where
 
 -- the tokens have this fault, maybe after another
 abbrev pub HasFault : List Token → KernFault → Type 0
-HasFault tokens (faults.Unexpected place) = ((token : Token) × (place ≡ token.place) × StopsAt tokens token) ⊎ ((place ≡ end_of tokens) × RunOut tokens)
+HasFault tokens (faults.Unexpected place) =
+    ((token : Token) × (place ≡ token.place) × StopsAt tokens token) ⊎ ((place ≡ end_of tokens) × RunOut tokens)
 HasFault tokens (faults.TooDeep place) = (token : Token) × (place ≡ token.place) × IsTooDeep tokens token
 HasFault tokens (faults.TooManyNodes place) = (token : Token) × (place ≡ token.place) × IsTooManyNodes tokens token
 HasFault tokens (faults.BadByte place) = ⊥
@@ -93,7 +95,8 @@ rank faults.Memory = 5
 
 -- the fault is the other, or is answered before it
 abbrev pub IsNoLater : KernFault → KernFault → Type 0
-IsNoLater fault other = (place_of fault < place_of other) ⊎ ((place_of fault ≡ place_of other) × (rank fault ≤ rank other))
+IsNoLater fault other =
+    (place_of fault < place_of other) ⊎ ((place_of fault ≡ place_of other) × (rank fault ≤ rank other))
 
 pub record HasFirstFault (tokens : List Token) (fault : KernFault) : Type 0 where
   pub is_fault : HasFault tokens fault

@@ -27,7 +27,8 @@ use Rattle.kern_tree.specs.declared.stmt.Act.TheVariants as acts
 use Rattle.kern_tree.specs.declared.stmt.Stmt.{Stmt, roll-Stmt}
 use Rattle.pf_geom.specs.declared.axis.Axis.{Axis}
 use Rattle.pf_geom.specs.declared.axis.Axis.TheVariants as axes
-use Rattle.kern_tree.specs.Rules.{Rule, At, ◌>>=◌, ◌>>◌, ◌or◌, pure, many, any, never, token, symbol, word, name, number, scale}
+use Rattle.kern_tree.specs.Rules.{Rule, At, ◌>>=◌, ◌>>◌, ◌or◌, pure, many, any, never, token, symbol, word, name}
+use Rattle.kern_tree.specs.Rules.{number, scale}
 
 -- ---- declarations
 
@@ -35,7 +36,9 @@ abbrev pub kind : Rule Kind
 kind = (word words.Num >> pure kinds_of.Num) or (word words.Vec >> pure kinds_of.Vec3)
 
 abbrev pub combine : Rule Combine
-combine = (word words.Sum >> pure combines.Sum) or (word words.Max >> pure combines.Max) or (word words.Min >> pure combines.Min)
+combine =
+    (word words.Sum >> pure combines.Sum) or (word words.Max >> pure combines.Max)
+    or (word words.Min >> pure combines.Min)
 
 abbrev pub decl_node : ℕ → List ℕ → DeclKind → Decl
 decl_node place called what = record { place = place; name = called; what = what }
@@ -200,7 +203,10 @@ module _ (inside : Rule Expr) where
     pure (node place (forms.To (to_scale bits.held) a))
 
   abbrev pub call : Rule Expr
-  call = call1 words.Isqrt (forms.One op1s.Isqrt) or call1 words.Abs (forms.One op1s.Abs) or to_call or call2 words.Min (forms.Two op2s.Least) or call2 words.Max (forms.Two op2s.Most) or call3 words.Muldiv (forms.Three op3s.Muldiv) or call3 words.Vec (forms.Three op3s.Build)
+  call =
+      call1 words.Isqrt (forms.One op1s.Isqrt) or call1 words.Abs (forms.One op1s.Abs) or to_call
+      or call2 words.Min (forms.Two op2s.Least) or call2 words.Max (forms.Two op2s.Most)
+      or call3 words.Muldiv (forms.Three op3s.Muldiv) or call3 words.Vec (forms.Three op3s.Build)
 
   abbrev pub prim : Rule Expr
   prim = literal or variable or bracketed or call
@@ -226,7 +232,9 @@ module _ (inside : Rule Expr) where
   sum = joined (operator symbols.Plus op2s.Add or operator symbols.Minus op2s.Sub) prod
 
   abbrev pub relation : Rule (At Op2)
-  relation = operator symbols.Lt op2s.Lt or operator symbols.Le op2s.Le or operator symbols.Gt op2s.Gt or operator symbols.Ge op2s.Ge or operator symbols.Eq op2s.Eq or operator symbols.Ne op2s.Ne
+  relation =
+      operator symbols.Lt op2s.Lt or operator symbols.Le op2s.Le or operator symbols.Gt op2s.Gt
+      or operator symbols.Ge op2s.Ge or operator symbols.Eq op2s.Eq or operator symbols.Ne op2s.Ne
 
   -- sum [ relation sum ]
   abbrev pub rel : Rule Expr

@@ -22,20 +22,25 @@ use Rattle.pf_geom.specs.declared.axis.Axis.{Axis}
 
 -- each literal in it is an i64, of a scale within the limit
 pub data IsLimited : Expr → Type 0 where
-  literal : {place mantissa scale : ℕ} → mantissa < 2 ^ 63 → scale ≤ MOST_SCALE → IsLimited (node place (forms.Number mantissa scale))
+  literal : {place mantissa scale : ℕ} → mantissa < 2 ^ 63 → scale ≤ MOST_SCALE
+      → IsLimited (node place (forms.Number mantissa scale))
   name : {place : ℕ} {called : List ℕ} → IsLimited (node place (forms.Name called))
   part : {place : ℕ} {a : Expr} {axis : Axis} → IsLimited a → IsLimited (node place (forms.Part a axis))
   one : {place : ℕ} {op : Op1} {a : Expr} → IsLimited a → IsLimited (node place (forms.One op a))
   two : {place : ℕ} {op : Op2} {a b : Expr} → IsLimited a → IsLimited b → IsLimited (node place (forms.Two op a b))
-  three : {place : ℕ} {op : Op3} {a b c : Expr} → IsLimited a → IsLimited b → IsLimited c → IsLimited (node place (forms.Three op a b c))
+  three : {place : ℕ} {op : Op3} {a b c : Expr} → IsLimited a → IsLimited b → IsLimited c
+      → IsLimited (node place (forms.Three op a b c))
   to : {place scale : ℕ} {a : Expr} → IsLimited a → IsLimited (node place (forms.To scale a))
 
 mutual
   -- so is each expression of the statement
   pub data IsLimitedStmt : Stmt → Type 0 where
-    set : {place : ℕ} {name : List ℕ} {value : Expr} → IsLimited value → IsLimitedStmt (stmt_node place (acts.Set name value))
-    give : {place : ℕ} {name : List ℕ} {value : Expr} → IsLimited value → IsLimitedStmt (stmt_node place (acts.Give name value))
-    conditional : {place : ℕ} {condition : Expr} {body others : List Stmt} → IsLimited condition → IsLimitedBlock body → IsLimitedBlock others → IsLimitedStmt (stmt_node place (acts.If condition body others))
+    set : {place : ℕ} {name : List ℕ} {value : Expr} → IsLimited value
+        → IsLimitedStmt (stmt_node place (acts.Set name value))
+    give : {place : ℕ} {name : List ℕ} {value : Expr} → IsLimited value
+        → IsLimitedStmt (stmt_node place (acts.Give name value))
+    conditional : {place : ℕ} {condition : Expr} {body others : List Stmt} → IsLimited condition → IsLimitedBlock body
+        → IsLimitedBlock others → IsLimitedStmt (stmt_node place (acts.If condition body others))
 
   pub data IsLimitedBlock : List Stmt → Type 0 where
     none : IsLimitedBlock []

@@ -18,7 +18,8 @@ pure value tokens read rest = (read ≡ value) × (tokens ≡ rest)
 -- one after the other; a block `do` is a sequence of these
 infixl 10 ◌>>=◌
 abbrev pub ◌>>=◌ : {A B : Type 0} → Rule A → (A → Rule B) → Rule B
-◌>>=◌ {A = A} first next tokens value rest = (a : A) × (between : List Token) × first tokens a between × next a between value rest
+◌>>=◌ {A = A} first next tokens value rest =
+    (a : A) × (between : List Token) × first tokens a between × next a between value rest
 
 infixl 10 ◌>>◌
 abbrev pub ◌>>◌ : {A B : Type 0} → Rule A → Rule B → Rule B
@@ -32,7 +33,8 @@ abbrev pub ◌or◌ : {A : Type 0} → Rule A → Rule A → Rule A
 -- any number of them, one after another
 abbrev pub many : {A : Type 0} → Rule A → Rule (List A)
 many rule tokens [] rest = tokens ≡ rest
-many rule tokens (value ∷ values) rest = (between : List Token) × rule tokens value between × many rule between values rest
+many rule tokens (value ∷ values) rest =
+    (between : List Token) × rule tokens value between × many rule between values rest
 
 -- by one of the rules
 abbrev pub any : {A : Type 0} → (ℕ → Rule A) → Rule A

@@ -80,7 +80,8 @@ all_decls_check decls = do
 
 -- the FORCE variable that a name is declared as
 abbrev pub force_as : List ℕ → DeclKind → List ForceVar
-force_as name (declared_as.Force kind scale combine) = record { name = name; kind = kind; scale = scale; combine = combine } ∷ []
+force_as name (declared_as.Force kind scale combine) =
+    record { name = name; kind = kind; scale = scale; combine = combine } ∷ []
 force_as name _ = []
 
 -- the FORCE variables in order of declaration

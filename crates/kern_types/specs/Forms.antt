@@ -92,7 +92,8 @@ module _ (place : ℕ) where
 
   -- vec(a, b, c)
   abbrev pub build_type : ExprType → ExprType → ExprType → OrFault ExprType
-  build_type (Scaled kinds.Num s) (Scaled kinds.Num t) (Scaled kinds.Num u) = scaled_if (s == t && t == u) (Scaled kinds.Vec3 s)
+  build_type (Scaled kinds.Num s) (Scaled kinds.Num t) (Scaled kinds.Num u) =
+      scaled_if (s == t && t == u) (Scaled kinds.Vec3 s)
   build_type _ _ _ = kind_fault
 
   -- to(k, a)

@@ -56,7 +56,9 @@ at_place expr = expr.form expr.place
 -- At a place of the text with these declarations and this scope.
 module _ (decls : List Decl) (scope : Scope) where
   abbrev pub name_type : ℕ → List ℕ → OrFault ExprType
-  name_type place name = named_type place (declaration decls name) (undeclared_type place (earlier_assignment scope.earlier name) (is_among scope.certain name))
+  name_type place name =
+      named_type place (declaration decls name)
+      (undeclared_type place (earlier_assignment scope.earlier name) (is_among scope.certain name))
 
   -- of a form whose node stands at this place, by its operands from the left
   abbrev pub form_typing : Form-F (ℕ → OrFault ExprType) (OrFault ExprType) → ℕ → OrFault ExprType

@@ -64,7 +64,10 @@ condition_check place (Scaled kind scale) = Err (faults.Kind place)
 
 -- after a name is assigned a value of this kind and scale
 abbrev pub with_assigned : Scope → List ℕ → Kind → ℕ → Scope
-with_assigned scope name kind scale = record { earlier = scope.earlier ++ record { name = name; kind = kind; scale = scale } ∷ []; certain = scope.certain ++ name ∷ [] }
+with_assigned scope name kind scale = record {
+  earlier = scope.earlier ++ record { name = name; kind = kind; scale = scale } ∷ [];
+  certain = scope.certain ++ name ∷ [];
+}
 
 -- what declares a name
 abbrev pub what_declares : Option Decl → Option DeclKind
@@ -101,7 +104,8 @@ module _ (decls : List Decl) where
 
   -- a contribution of a value of this type
   abbrev pub give_check : ℕ → List ℕ → Scope → ExprType → Check
-  give_check place name scope type = given_check place (what_declares (declaration decls name)) (earlier_assignment scope.earlier name) type
+  give_check place name scope type =
+      given_check place (what_declares (declaration decls name)) (earlier_assignment scope.earlier name) type
 
   -- name = value;
   abbrev pub assignment_after : ℕ → List ℕ → Expr → After

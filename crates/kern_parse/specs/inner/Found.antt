@@ -11,7 +11,8 @@ use Rattle.kern_tree.specs.declared.expr.Op2.{Op2}
 use Rattle.kern_tree.specs.declared.expr.Op2.TheVariants as op2s
 use Rattle.kern_tree.specs.declared.limits.TheConstants.{MOST_OPEN}
 use Rattle.kern_tree.specs.FirstFault.{brackets_after}
-use Rattle.kern_tree.specs.Grammar.{node, two, part, component, operator, to_scale, bracketed, prim, post, unary, prod, sum, rel, both, expr_over, expr_within}
+use Rattle.kern_tree.specs.Grammar.{node, two, part, component, operator, to_scale, bracketed, prim, post, unary, prod}
+use Rattle.kern_tree.specs.Grammar.{sum, rel, both, expr_over, expr_within}
 use Rattle.kern_tree.specs.Rules.{Rule, At, ◌>>=◌, ◌>>◌, ◌or◌, pure, many, never, token, symbol, number, scale}
 use Rattle.pf_geom.specs.declared.axis.Axis.{Axis}
 use Rattle.kern_parse.specs.declared.operators.Call.{Call}
@@ -21,7 +22,7 @@ use Rattle.kern_parse.specs.declared.operators.Level.TheVariants as levels
 use Rattle.kern_parse.specs.inner.Leading.{Leads}
 use Rattle.kern_parse.specs.inner.Operators.{call_of}
 use Rattle.kern_parse.specs.inner.Reading.{Reading}
-use Rattle.kern_parse.specs.Required.{Part, operand}
+use Rattle.kern_parse.specs.Required.{Part, operand, one_argument, two_arguments, three_arguments, rescale_arguments}
 
 -- what stands in brackets, where so many more may be opened
 abbrev pub inside : ℕ → Rule Expr
@@ -51,7 +52,8 @@ pub record ReadsToken (of : Part) (kind : TokenKind) (old new : Reading) : Type 
   pub shallow : new.depth ≤ MOST_OPEN
 
 -- what the rule spells was read for the parts, and nothing more
-pub record ReadsRule {A : Type 0} (rule : Rule A) (parts : List Part) (old : Reading) (value : A) (new : Reading) : Type 0 where
+pub record ReadsRule {A : Type 0} (rule : Rule A) (parts : List Part) (old : Reading) (value : A) (new : Reading)
+    : Type 0 where
   pub spelled : rule old.rest value new.rest
   pub leads : Leads parts old [] new
   pub depth : new.depth ≡ old.depth
@@ -101,10 +103,10 @@ pub record Picks (old : Reading) (expr : Expr) (now : Reading) : Type 0 where
 
 -- what stands after the word of a call
 abbrev pub arguments : Call → List Part
-arguments (calls.One op) = Part.Exactly symbols.OpenRound ∷ Part.Chain levels.Or ∷ Part.Exactly symbols.CloseRound ∷ []
-arguments (calls.Two op) = Part.Exactly symbols.OpenRound ∷ Part.Chain levels.Or ∷ Part.Exactly symbols.Comma ∷ Part.Chain levels.Or ∷ Part.Exactly symbols.CloseRound ∷ []
-arguments (calls.Three op) = Part.Exactly symbols.OpenRound ∷ Part.Chain levels.Or ∷ Part.Exactly symbols.Comma ∷ Part.Chain levels.Or ∷ Part.Exactly symbols.Comma ∷ Part.Chain levels.Or ∷ Part.Exactly symbols.CloseRound ∷ []
-arguments calls.To = Part.Exactly symbols.OpenRound ∷ Part.Number ∷ Part.Exactly symbols.Comma ∷ Part.Chain levels.Or ∷ Part.Exactly symbols.CloseRound ∷ []
+arguments (calls.One op) = one_argument
+arguments (calls.Two op) = two_arguments
+arguments (calls.Three op) = three_arguments
+arguments calls.To = rescale_arguments
 
 -- the call whose word stands at this place, from its bracket on
 abbrev pub after_word : Call → ℕ → Rule Expr → Rule Expr
@@ -143,7 +145,7 @@ pub record ReadsCall (call : Call) (place : ℕ) (old : Reading) (expr : Expr) (
 
 -- an expression in brackets was read, and nothing more
 pub record ReadsBracketed (old : Reading) (expr : Expr) (new : Reading) : Type 0 where
-  pub reads : ReadsRule (bracketed (inside (MOST_OPEN - old.depth))) (Part.Exactly symbols.OpenRound ∷ Part.Chain levels.Or ∷ Part.Exactly symbols.CloseRound ∷ []) old expr new
+  pub reads : ReadsRule (bracketed (inside (MOST_OPEN - old.depth))) one_argument old expr new
 
 -- the next token is a word of this call
 pub record IsCalled (next : Option TokenKind) (call : Call) : Type 0 where

@@ -1,27 +1,13 @@
 -- The first fault of a reading, by what the grammar requires at each token.
-use Rattle.std.specs.Prelude.{◌≡◌, ◌⊎◌, ℕ, ◌+◌, List, [], ◌∷◌, ◌++◌, Bool, true, false, ◌&&◌, cond, nat_le, nat_lt, Option, Some, None}
+use Rattle.std.specs.Prelude.{◌≡◌, ◌⊎◌, ℕ, ◌+◌, List, [], ◌∷◌, ◌++◌, Bool, true, false, cond, nat_le, nat_lt, Option}
+use Rattle.std.specs.Prelude.{Some, None}
 use Rattle.kern_token.specs.declared.fault.KernFault.{KernFault}
 use Rattle.kern_token.specs.declared.fault.KernFault.TheVariants as faults
 use Rattle.kern_token.specs.declared.token.Token.{Token}
-use Rattle.kern_token.specs.declared.token.TokenKind.{TokenKind}
 use Rattle.kern_tree.specs.declared.limits.TheConstants.{MOST_NODES, MOST_OPEN}
 use Rattle.kern_tree.specs.FirstFault.{brackets_after}
 use Rattle.kern_parse.specs.inner.Reading.{Reading}
-use Rattle.kern_parse.specs.Required.{Part, Move, move, is_optional}
-
--- what is required after a token of this kind, where it is one of those that may come next
-abbrev pub chosen : Option Move → Bool → List Part → Option Move → Option Move
-chosen (Some found) optional parts later = Some (record { then = found.then ++ parts; is_node = found.is_node })
-chosen None true parts later = later
-chosen None false parts later = None
-
-unfoldable pub moves : List Part → TokenKind → Option Move
-moves [] kind = None
-moves (part ∷ parts) kind = chosen (move part kind) (is_optional part) parts (moves parts kind)
-
-unfoldable pub are_optional : List Part → Bool
-are_optional [] = true
-are_optional (part ∷ parts) = is_optional part && are_optional parts
+use Rattle.kern_parse.specs.Required.{Part, Move, moves, are_optional}
 
 abbrev pub nodes_after : Bool → ℕ → ℕ
 nodes_after true nodes = nodes + 1
@@ -45,7 +31,8 @@ step place false full (Some found) later = counted found.is_node full place (lat
 unfoldable pub reads_on : ℕ → List Part → ℕ → ℕ → List Token → Option KernFault
 reads_on end parts nodes depth [] = cond (are_optional parts) None (Some (faults.Unexpected end))
 reads_on end parts nodes depth (token ∷ rest) =
-    step token.place (nat_lt MOST_OPEN (brackets_after depth token.kind)) (nat_le MOST_NODES nodes) (moves parts token.kind)
+    step token.place (nat_lt MOST_OPEN (brackets_after depth token.kind)) (nat_le MOST_NODES nodes)
+    (moves parts token.kind)
     (λ found. reads_on end found.then (nodes_after found.is_node nodes) (brackets_after depth token.kind) rest)
 
 -- the first fault of the reading from here on, where these parts are required

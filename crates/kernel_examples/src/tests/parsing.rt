@@ -47,7 +47,8 @@ fn repeated(
 fn declarations_and_a_contribution(rt: HostRuntime) -> Result<(), Fail> {
     let alloc = rt.alloc();
     let text =
-        "EPI vec S0 xi : pos;\nEPJ vec S0 xj : pos;\nFORCE vec S16 acc sum;\nFORCE vec S0 pull sum;\npull += xj - xi;\n";
+        "EPI vec S0 xi : pos;\nEPJ vec S0 xj : pos;\nFORCE vec S16 acc sum;\nFORCE vec S0 pull sum;\n\
+        pull += xj - xi;\n";
     let decls =
         "0:Epi xi Vec3 0 pos; 21:Epj xj Vec3 0 pos; 42:Force acc Vec3 16 Sum; 65:Force pull Vec3 0 Sum; ";
     is_declared_as(&rt, alloc, text, decls)?;
@@ -58,21 +59,26 @@ fn declarations_and_a_contribution(rt: HostRuntime) -> Result<(), Fail> {
 fn assignments_and_calls(rt: HostRuntime) -> Result<(), Fail> {
     let alloc = rt.alloc();
     let text =
-        "EPI vec S0 xi : pos;\nEPJ vec S0 xj : pos;\nEPJ num S0 mj : mass;\nFORCE vec S16 acc sum;\nPARAM S16 g = 1000000;\nd = xj - xi;\nr2 = d * d;\nr = isqrt(r2);\nacc += muldiv(g * mj, d, r2) / r;\n";
+        "EPI vec S0 xi : pos;\nEPJ vec S0 xj : pos;\nEPJ num S0 mj : mass;\nFORCE vec S16 acc sum;\n\
+        PARAM S16 g = 1000000;\nd = xj - xi;\nr2 = d * d;\nr = isqrt(r2);\nacc += muldiv(g * mj, d, r2) / r;\n";
     let decls =
-        "0:Epi xi Vec3 0 pos; 21:Epj xj Vec3 0 pos; 42:Epj mj Num 0 mass; 64:Force acc Vec3 16 Sum; 87:Param g 16 1000000; ";
+        "0:Epi xi Vec3 0 pos; 21:Epj xj Vec3 0 pos; 42:Epj mj Num 0 mass; 64:Force acc Vec3 16 Sum; \
+        87:Param g 16 1000000; ";
     is_declared_as(&rt, alloc, text, decls)?;
     let body =
-        "110:d = 117:(114:xj Sub 119:xi); 123:r2 = 130:(128:d Mul 132:d); 135:r = 139:Isqrt(145:r2); 150:acc += 179:(157:Muldiv(166:(164:g Mul 168:mj), 172:d, 175:r2) Div 181:r); ";
+        "110:d = 117:(114:xj Sub 119:xi); 123:r2 = 130:(128:d Mul 132:d); 135:r = 139:Isqrt(145:r2); \
+        150:acc += 179:(157:Muldiv(166:(164:g Mul 168:mj), 172:d, 175:r2) Div 181:r); ";
     is_read_as(&rt, alloc, text, body)
 }
 
 #[test]
 fn every_declaration(rt: HostRuntime) -> Result<(), Fail> {
     let text =
-        "EPI num S16 a : c0; EPJ num S3 b : mass; FORCE num S0 p max; FORCE num S1 q min; PARAM S2 r = -5; PARAM S0 s = 9223372036854775807;";
+        "EPI num S16 a : c0; EPJ num S3 b : mass; FORCE num S0 p max; FORCE num S1 q min; PARAM S2 r = -5; \
+        PARAM S0 s = 9223372036854775807;";
     let decls =
-        "0:Epi a Num 16 c0; 20:Epj b Num 3 mass; 41:Force p Num 0 Max; 61:Force q Num 1 Min; 81:Param r 2 -5; 98:Param s 0 9223372036854775807; ";
+        "0:Epi a Num 16 c0; 20:Epj b Num 3 mass; 41:Force p Num 0 Max; 61:Force q Num 1 Min; 81:Param r 2 -5; \
+        98:Param s 0 9223372036854775807; ";
     is_declared_as(&rt, rt.alloc(), text, decls)
 }
 

@@ -38,7 +38,9 @@ fn a_product_stands_at_its_operator(rt: HostRuntime) -> Result<(), Fail> {
     let text = format!(in alloc; "{:?}", product(alloc)?)?;
     assert_eq!(rt;
         text.as_str(),
-        "Expr { place: 29, form: Two(Mul, Boxed { inner: Expr { place: 25, form: One(Neg, Boxed { inner: Expr { place: 26, form: Name(Name { bytes: [120, 105] }) } }) } }, Boxed { inner: Expr { place: 31, form: Number(2, 0) } }) }"
+        "Expr { place: 29, form: Two(Mul, Boxed { inner: Expr { place: 25, form: One(Neg, \
+        Boxed { inner: Expr { place: 26, form: Name(Name { bytes: [120, 105] }) } }) } }, \
+        Boxed { inner: Expr { place: 31, form: Number(2, 0) } }) }"
     );
     Ok(())
 }
