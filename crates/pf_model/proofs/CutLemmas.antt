@@ -1,20 +1,20 @@
 -- Cuts: they ascend, and the slabs between them hold runs of coordinates.
-use Rattle.std.proofs.Common.{◌≡◌, ℕ, zero, suc, ◌+◌, ◌-◌, ◌*◌, ◌/◌, ◌^◌, ◌<◌, ◌≤◌, Bool, true, false, cond, List, [], ◌∷◌, ◌++◌, length, get_or, take, drop, map, inl, inr, refl, sym, ◌∙◌, ap, subst, arith, leb}
+use Rattle.std.proofs.Common.{◌≡◌, ℕ, zero, suc, ◌+◌, ◌-◌, ◌*◌, ◌/◌, ◌^◌, ◌<◌, ◌≤◌, cond, List, [], ◌∷◌, length, get_or, inl, inr, refl, ◌∙◌, ap, arith, leb}
 use Rattle.std.specs.Prelude.{nat_le}
-use Rattle.std.specs.List.{All, count_by, filter, flat_map, range_with_len}
+use Rattle.std.specs.List.{All}
 use Rattle.std.specs.List.Sorted.{IsNonDecreasing}
 use Rattle.std.proofs.Math.Nat.{div-mul-le_self, mul-le-mul_left}
 use Rattle.std.proofs.lemmas.Nat.{le-div}
-use Rattle.std.proofs.lemmas.Bool.{cases_lt, cond_both, cond-true, cond-false, le-leb, lt-leb, leb-true, leb-false}
-use Rattle.std.proofs.lemmas.List.{take_at, drop_at, drop-drop, take-take, drop-take, get_or_past, get_or_default, get_or-map, length-map, length-append, length-take, length-drop}
-use Rattle.std.proofs.lemmas.List.Elements.{All-head, All-tail, All-from_get_or, All-get_or, All-map, All-contains}
+use Rattle.std.proofs.lemmas.Bool.{cases_lt, cond-true, cond-false, le-leb, lt-leb}
+use Rattle.std.proofs.lemmas.List.{get_or_past, get_or-map, length-map}
+use Rattle.std.proofs.lemmas.List.Elements.{All-from_get_or, All-get_or, All-map, All-contains}
 use Rattle.std.proofs.lemmas.List.FromFn.{length-map-range_with_len, get_or-map-range_with_len}
 use Rattle.std.proofs.lemmas.List.Sums.{count_by-le-length, sum_by-cons}
 use Rattle.pf_geom.specs.Position.{Position, IsPosition}
 use Rattle.pf_model.specs.Particle.{Particle}
 use Rattle.pf_model.specs.Order.{in_order_once}
-use Rattle.pf_model.specs.Domains.{piece_at, AreCuts, slab_of, slab_start, slab_end, comes_first, coordinates_of, cut_before, cuts_of}
-use Rattle.pf_model.proofs.OrderLemmas.{In, IsStrict, IsAscending-in_order, in_from_in_order}
+use Rattle.pf_model.specs.Domains.{AreCuts, slab_of, slab_start, slab_end, comes_first, coordinates_of, cut_before, cuts_of}
+use Rattle.pf_model.proofs.OrderLemmas.{IsStrict, IsAscending-in_order, in_from_in_order}
 use Rattle.pf_model.proofs.ListLemmas.{in_from_contains, contains_from_in, before_at}
 use Rattle.pf_model.proofs.EntryLemmas.{pair-irreflexive, pair-transitive, pair_below}
 use Rattle.pf_model.proofs.MemberLemmas.{all_from_contains, element_at}

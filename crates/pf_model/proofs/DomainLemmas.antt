@@ -1,23 +1,19 @@
 -- Multisections: their pieces, and what each rank owns by their cuts.
-use Rattle.std.proofs.Common.{◌≡◌, ℕ, zero, suc, ◌+◌, ◌-◌, ◌*◌, ◌/◌, ◌%◌, ◌^◌, ◌<◌, ◌≤◌, List, [], ◌∷◌, ◌++◌, length, take, drop, inl, inr, refl, sym, ◌∙◌, ap, subst, arith}
-use Rattle.std.specs.Prelude.{nat_le}
+use Rattle.std.proofs.Common.{◌≡◌, ℕ, zero, suc, ◌+◌, ◌-◌, ◌*◌, ◌/◌, ◌%◌, ◌^◌, ◌<◌, ◌≤◌, List, ◌++◌, length, take, drop, inl, inr, refl, sym, ◌∙◌, ap, subst, arith}
 use Rattle.std.specs.List.{All, flat_map, range_with_len}
-use Rattle.std.specs.List.Sorted.{IsNonDecreasing}
 use Rattle.std.proofs.Math.Nat.{mul_assoc, mul-le-mul_right}
-use Rattle.std.proofs.Math.Seq.{take-add}
 use Rattle.std.proofs.lemmas.Bool.{cases_lt}
 use Rattle.std.proofs.lemmas.Nat.{div-mul-add, mod-mul-add, same_from_place}
-use Rattle.std.proofs.lemmas.List.{take_at, drop_at, drop-drop, take-take, drop-take, get_or_past, length-append, length-take, length-drop}
+use Rattle.std.proofs.lemmas.List.{take_at, drop_at, drop-drop, take-take, drop-take, get_or_past, length-append}
 use Rattle.std.proofs.lemmas.List.Elements.{All-filter, All-get_or}
-use Rattle.std.proofs.lemmas.List.Sums.{count_by-le-length}
-use Rattle.pf_geom.specs.Position.{Position, IsPosition, IsAtMost}
+use Rattle.pf_geom.specs.Position.{Position, IsPosition}
 use Rattle.pf_geom.specs.Bounds.{Bounds, IsBox, IsInBox}
 use Rattle.pf_model.specs.Particle.{Particle}
-use Rattle.pf_model.specs.Division.{Division, IsDivision}
-use Rattle.pf_model.specs.Domains.{Multisection, piece_at, cuts_in_slab, cuts_in_column, AreCuts, IsMultisection, slab_of, slab_start, slab_end, owner_by, box_by, cuts_of, x_cuts, in_slab, y_cuts, in_column, z_cuts, cuts_for, owner, domain_box}
+use Rattle.pf_model.specs.Division.{Division}
+use Rattle.pf_model.specs.Domains.{Multisection, piece_at, cuts_in_slab, cuts_in_column, AreCuts, IsMultisection, slab_of, slab_start, slab_end, owner_by, box_by, x_cuts, in_slab, y_cuts, in_column, z_cuts, cuts_for, owner, domain_box}
 use Rattle.pf_model.specs.DomainLaws.{CutsAscend, BoxesByCutsHoldWhatIsOwned, DomainBoxesHoldWhatIsOwned}
 use Rattle.pf_model.proofs.RankLemmas.{length-cuts_of, slab_below}
-use Rattle.pf_model.proofs.CutLemmas.{AreCuts-cuts_of, IsSlab, IsSlab-slab_of, slab_from_IsSlab}
+use Rattle.pf_model.proofs.CutLemmas.{AreCuts-cuts_of, IsSlab-slab_of, slab_from_IsSlab}
 
 -- lists of one length joined, and how long they are
 length-joined : {X : Type 0} (f : ℕ → List X) (len : ℕ) → ((i : ℕ) → length (f i) ≡ len) → (start n : ℕ) → length (flat_map f (range_with_len start n)) ≡ n * len

@@ -1,22 +1,21 @@
 -- Domains of the same particles in another order, and the particles of several ranks.
-use Rattle.std.proofs.Common.{◌≡◌, ℕ, zero, suc, ◌+◌, ◌-◌, ◌*◌, ◌/◌, ◌^◌, Bool, true, false, cond, ◌||◌, List, [], ◌∷◌, ◌++◌, length, get_or, map, inl, inr, refl, sym, ◌∙◌, ap, subst, arith}
+use Rattle.std.proofs.Common.{◌≡◌, ℕ, ◌-◌, ◌*◌, ◌/◌, ◌^◌, Bool, List, [], ◌∷◌, length, get_or, map, refl, sym, ◌∙◌, ap, subst, arith}
 use Rattle.std.specs.Prelude.{nat_eq}
 use Rattle.std.specs.List.{filter, list_any, flat_map, range_with_len, Contains}
 use Rattle.std.specs.List.Sorted.{IsPermutation}
-use Rattle.std.proofs.lemmas.Bool.{eqb-true, false_from_ne_true}
-use Rattle.std.proofs.lemmas.List.Sorted.{IsPermutation-refl, IsPermutation-sym, IsPermutation-cons, IsPermutation-trans, IsPermutation-middle, length_permutation, Contains-permutation}
+use Rattle.std.proofs.lemmas.Bool.{eqb-true}
+use Rattle.std.proofs.lemmas.List.Sorted.{IsPermutation-sym, length_permutation, Contains-permutation}
 use Rattle.std.proofs.lemmas.Map.Views.{Contains-from_any}
 use Rattle.pf_geom.specs.Position.{Position}
 use Rattle.pf_geom.specs.Bounds.{Bounds}
 use Rattle.pf_model.specs.declared.entry.Entry.{Entry}
 use Rattle.pf_model.specs.Particle.{Particle}
 use Rattle.pf_model.specs.Particles.{HaveDistinctIds}
-use Rattle.pf_model.specs.Criterion.{Criterion}
 use Rattle.pf_model.specs.Division.{Division}
 use Rattle.pf_model.specs.Order.{in_order_once}
-use Rattle.pf_model.specs.Domains.{Multisection, slab_of, owner_by, box_by, comes_first, coordinates_of, cut_before, cuts_of, x_cuts, in_slab, y_cuts, in_column, z_cuts, cuts_for, owner, particles_of, domain_box}
+use Rattle.pf_model.specs.Domains.{Multisection, slab_of, owner_by, box_by, comes_first, cuts_of, x_cuts, in_slab, y_cuts, in_column, z_cuts, cuts_for, owner, particles_of, domain_box}
 use Rattle.pf_model.specs.Interaction.{list_of}
-use Rattle.pf_model.specs.EssentialTree.{tree_for, essential_tree, particles_of_ranks}
+use Rattle.pf_model.specs.EssentialTree.{tree_for, essential_tree}
 use Rattle.pf_model.specs.DomainLaws.{CutsIgnoreOrder, DomainsIgnoreOrder, EssentialTreesIgnoreOrder, RanksHaveTheirOwn}
 use Rattle.pf_model.proofs.OrderLemmas.{In, IsConnected, IsAscending-in_order, in_from_in_order, in_order_from_in, same_ascending}
 use Rattle.pf_model.proofs.ListLemmas.{in_from_contains, contains_from_in, list-same}

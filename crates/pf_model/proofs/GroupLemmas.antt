@@ -1,19 +1,15 @@
 -- Groups: their levels, their cells, and the particles in these.
-use Rattle.std.proofs.Common.{◌≡◌, ℕ, zero, suc, ◌+◌, ◌-◌, ◌*◌, ◌/◌, ◌^◌, ◌<◌, ◌≤◌, Bool, true, false, List, length, map, get_or, Option, Some, None, unwrap_or, refl, sym, ◌∙◌, ap, subst, arith, rules, leb, ltb, inl, inr, ◌∷◌, []}
-use Rattle.std.specs.List.{filter, Contains}
-use Rattle.std.specs.List.Sorted.{IsPermutation}
+use Rattle.std.proofs.Common.{◌≡◌, ℕ, zero, suc, ◌+◌, ◌-◌, ◌*◌, ◌/◌, ◌^◌, ◌<◌, ◌≤◌, Bool, false, List, length, map, get_or, Option, Some, None, unwrap_or, refl, sym, ◌∙◌, ap, subst, arith, rules, leb, inl, inr, ◌∷◌, []}
 use Rattle.std.proofs.Math.Nat.{mul_assoc, mul-div_cancel, pow-suc}
 use Rattle.std.proofs.lemmas.Nat.{pow-add}
-use Rattle.std.proofs.lemmas.Bool.{cases_lt, both_ways, leb-true, leb-false, le-leb, lt-leb, ltb-true, ltb-false, lt-ltb, le-ltb}
-use Rattle.std.proofs.lemmas.List.{get_or_default, get_or-map, length-map}
-use Rattle.std.proofs.lemmas.List.Sorted.{length_permutation, Contains-permutation, IsPermutation-sym}
+use Rattle.std.proofs.lemmas.Bool.{cases_lt, both_ways, leb-true, leb-false, le-leb, lt-leb, ltb-true, ltb-false, lt-ltb}
+use Rattle.std.proofs.lemmas.List.{get_or_default}
 use Rattle.pf_geom.specs.Position.{Position}
 use Rattle.pf_geom.specs.Octant.{Octant, cell_at, ancestor_at, IsIn}
 use Rattle.pf_geom.specs.CellLaws.{CellsOfAPositionNest, PositionsShareLowerCells}
 use Rattle.pf_model.specs.Particle.{Particle}
 use Rattle.pf_model.specs.Order.{least_below}
-use Rattle.pf_model.specs.Interaction.{is_cell}
-use Rattle.pf_model.specs.Group.{particles_in, group_level, group_cell, group_of, has_lower_corner, group_cells}
+use Rattle.pf_model.specs.Group.{particles_in, group_level, group_cell, has_lower_corner, group_cells}
 use Rattle.pf_model.specs.GroupLaws.{IsGroupLevel, GroupLevelsAreLeast, PositionsShareTheirGroup, MembersShareTheirGroup, AreGroupCells, GroupCellsAreOrdered, EachIsInOneGroup}
 use Rattle.pf_model.proofs.LeastLemmas.{IsLeast, least_below-from_IsLeast, IsLeast-least_below}
 use Rattle.pf_model.proofs.OrderLemmas.{In, IsStrict, IsConnected, IsAscending, IsAscending-in_order, in_from_in_order, in_order_from_in, same_ascending}

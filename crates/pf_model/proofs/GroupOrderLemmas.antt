@@ -1,5 +1,5 @@
 -- Groups of the same particles in another order, and groups of one place.
-use Rattle.std.proofs.Common.{◌≡◌, ℕ, zero, suc, ◌-◌, ◌/◌, ◌^◌, ◌<◌, ◌≤◌, List, [], ◌∷◌, length, inl, inr, refl, sym, ◌∙◌, ap, subst, arith}
+use Rattle.std.proofs.Common.{◌≡◌, ℕ, ◌-◌, ◌/◌, ◌^◌, List, length, inl, inr, refl, ◌∙◌, ap, subst, arith}
 use Rattle.std.specs.List.{All, Contains}
 use Rattle.std.specs.List.Sorted.{IsPermutation}
 use Rattle.std.proofs.lemmas.Bool.{cases_lt}
@@ -11,8 +11,8 @@ use Rattle.pf_geom.specs.Octant.{Octant, cell_at, IsIn}
 use Rattle.pf_geom.specs.CellLaws.{CellsOfAPositionNest, PositionsShareLowerCells, KeysAreDistinct}
 use Rattle.pf_model.specs.Particle.{Particle}
 use Rattle.pf_model.specs.Interaction.{is_cell}
-use Rattle.pf_model.specs.Group.{particles_in, group_level, group_cell, group_of, box_of, group_cells}
-use Rattle.pf_model.specs.GroupLaws.{IsGroupLevel, GroupLevelsAreLeast, AreGroupCells, GroupCellsAreOrdered, GroupsIgnoreOrder, GroupsOfOneAreOnePlace}
+use Rattle.pf_model.specs.Group.{particles_in, group_level, group_cell, group_of, group_cells}
+use Rattle.pf_model.specs.GroupLaws.{GroupsIgnoreOrder, GroupsOfOneAreOnePlace}
 use Rattle.pf_model.proofs.PermutationLemmas.{IsPermutation-filter}
 use Rattle.pf_model.proofs.MemberLemmas.{in_cell, cell_has, only_element, all_from_contains, some_from_contains}
 use Rattle.pf_model.proofs.GroupLemmas.{group_level-is, group_levels_are_least, group_cells_are_ordered}

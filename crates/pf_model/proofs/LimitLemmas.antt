@@ -1,12 +1,12 @@
 -- The limits of moments and sources.
-use Rattle.std.proofs.Common.{◌≡◌, ℕ, ◌+◌, ◌-◌, ◌*◌, ◌/◌, ◌^◌, ◌<◌, ◌≤◌, ℤ, pos, ◌+ℤ◌, unsigned_abs, List, [], ◌∷◌, length, get_or, refl, sym, ◌∙◌, ap, subst, arith}
+use Rattle.std.proofs.Common.{◌≡◌, ℕ, ◌+◌, ◌-◌, ◌*◌, ◌/◌, ◌^◌, ◌<◌, ◌≤◌, ℤ, pos, unsigned_abs, List, [], ◌∷◌, length, get_or, refl, sym, ◌∙◌, subst, arith}
 use Rattle.std.specs.List.{All}
 use Rattle.std.proofs.Math.Nat.{mul-le-mul_left}
 use Rattle.std.proofs.lemmas.Nat.{div_below}
 use Rattle.std.proofs.lemmas.List.Elements.{All-head, All-tail, All-replicate, All-weaker}
 use Rattle.pf_model.specs.Particle.{Particle, IsParticle, IsAttribute}
-use Rattle.pf_model.specs.Totals.{Totals, IsTotals, IsSource}
-use Rattle.pf_model.specs.Sums.{moment_of, together, pairwise_sums, source_of}
+use Rattle.pf_model.specs.Totals.{Totals, IsTotals}
+use Rattle.pf_model.specs.Sums.{moment_of, together, pairwise_sums}
 use Rattle.pf_model.specs.MomentLaws.{MomentsKeepTheirLimits, SourcesKeepTheirLimits}
 use Rattle.pf_model.proofs.MomentLemmas.{IsSumOf-pairwise, inside-sums, three_of, weighted_at, attributes_of_one, count-moment_of, moment_of-append}
 

@@ -1,7 +1,7 @@
 -- The list over some particles and others.
-use Rattle.std.proofs.Common.{◌≡◌, ℕ, zero, suc, ◌+◌, ◌<◌, ◌≤◌, Bool, true, false, List, [], ◌∷◌, ◌++◌, length, map, Option, Some, None, inl, inr, ◌⊎◌, refl, sym, ◌∙◌, ap, subst, arith}
+use Rattle.std.proofs.Common.{◌≡◌, ℕ, ◌+◌, ◌≤◌, false, List, [], ◌∷◌, ◌++◌, length, map, Option, Some, None, inl, inr, ◌⊎◌, refl, sym, ◌∙◌, ap, subst, arith}
 use Rattle.std.specs.Prelude.{nat_eq}
-use Rattle.std.specs.List.{filter, Contains, IsDistinct, AllByRecursion}
+use Rattle.std.specs.List.{IsDistinct, AllByRecursion}
 use Rattle.std.proofs.lemmas.Bool.{cases_lt}
 use Rattle.std.proofs.lemmas.List.{length-append, append-nil, nil_from_length}
 use Rattle.std.proofs.lemmas.List.Elements.{filter-append}
@@ -15,9 +15,9 @@ use Rattle.pf_model.specs.Particles.{HaveDistinctIds}
 use Rattle.pf_model.specs.Criterion.{Criterion}
 use Rattle.pf_model.specs.Totals.{Totals}
 use Rattle.pf_model.specs.Sums.{moment_of, together}
-use Rattle.pf_model.specs.Interaction.{level_of, is_cell, entry_at, entry_of, comes_before, list_of}
+use Rattle.pf_model.specs.Interaction.{level_of, is_cell, entry_at, comes_before, list_of}
 use Rattle.pf_model.specs.Group.{particles_in}
-use Rattle.pf_model.specs.Merging.{joined, merged, common_count}
+use Rattle.pf_model.specs.Merging.{joined, merged}
 use Rattle.pf_model.specs.ListLaws.{NonePasses, IsFirstCell, ListsHoldFirstCells, ListsHoldNearParticles}
 use Rattle.pf_model.specs.MergingLaws.{ListsMerge, MergedListsShareCells}
 use Rattle.pf_model.proofs.OrderLemmas.{In, same_ascending}

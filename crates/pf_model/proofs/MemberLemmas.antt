@@ -1,8 +1,8 @@
 -- The elements of lists that a test keeps.
-use Rattle.std.proofs.Common.{◌≡◌, ℕ, zero, suc, ◌<◌, ◌≤◌, Bool, true, false, cond, ◌&&◌, List, [], ◌∷◌, length, map, get_or, inl, inr, refl, sym, ◌∙◌, ap, subst, arith, eqb}
+use Rattle.std.proofs.Common.{◌≡◌, ℕ, zero, suc, ◌<◌, ◌≤◌, Bool, true, List, [], ◌∷◌, length, get_or, inl, inr, sym, ◌∙◌, ap, arith}
 use Rattle.std.specs.List.{All, filter, Contains}
 use Rattle.std.proofs.lemmas.List.Elements.{Contains-get_or}
-use Rattle.std.proofs.lemmas.Bool.{cond_both, both_ways, false≢true, eqb-true, eq-eqb, and_parts, and_from}
+use Rattle.std.proofs.lemmas.Bool.{cond_both, eqb-true, eq-eqb, and_parts, and_from}
 use Rattle.pf_geom.specs.Octant.{Octant, cell_at, IsIn}
 use Rattle.pf_model.specs.Particle.{Particle}
 use Rattle.pf_model.specs.Interaction.{is_cell}

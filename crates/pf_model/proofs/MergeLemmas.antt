@@ -1,15 +1,14 @@
 -- Two lists in order put together.
-use Rattle.std.proofs.Common.{◌≡◌, ℕ, zero, suc, ◌+◌, ◌<◌, ◌≤◌, Bool, true, false, cond, not, ◌&&◌, ◌||◌, List, [], ◌∷◌, ◌++◌, length, map, inl, inr, ◌⊎◌, refl, sym, ◌∙◌, ap, subst, arith, ltb}
-use Rattle.std.specs.List.{list_any, count_by}
-use Rattle.std.proofs.lemmas.Bool.{cond_both, cond-true, cond-false, cases_Bool, true≢false, false≢true, ltb-false, and_parts, and_from, and_right, not-true, not_from_false, false_from_ne_true}
+use Rattle.std.proofs.Common.{◌≡◌, ℕ, suc, ◌+◌, Bool, true, false, cond, ◌||◌, List, [], ◌∷◌, length, inl, inr, ◌⊎◌, refl, sym, ◌∙◌, ap, subst, arith, ltb}
+use Rattle.std.specs.List.{list_any}
+use Rattle.std.proofs.lemmas.Bool.{cond_both, cond-true, cond-false, true≢false, ltb-false, and_parts, and_from, not-true, not_from_false, false_from_ne_true}
 use Rattle.std.proofs.lemmas.List.Sums.{sum_by-cons}
 use Rattle.pf_geom.specs.Octant.{Octant}
 use Rattle.pf_model.specs.declared.entry.Entry.{Entry}
 use Rattle.pf_model.specs.declared.entry.Entry.TheVariants.{Cell, One}
-use Rattle.pf_model.specs.Sums.{together}
 use Rattle.pf_model.specs.Interaction.{comes_before}
 use Rattle.pf_model.specs.Merging.{joined, with_entry, merged, is_level, common_count}
-use Rattle.pf_model.proofs.OrderLemmas.{In, BeforeAll, IsAscending, before_each, IsStrict}
+use Rattle.pf_model.proofs.OrderLemmas.{In, BeforeAll, IsAscending, before_each}
 use Rattle.pf_model.proofs.EntryLemmas.{comes_before-strict, pair-connected, same_cell}
 use Rattle.pf_model.proofs.ListCellLemmas.{same_tests}
 use Rattle.pf_model.proofs.ReuseLemmas.{list_any-from_in, in_from_list_any}

@@ -1,5 +1,5 @@
 -- What holds along a permutation of a list.
-use Rattle.std.proofs.Common.{◌≡◌, ℕ, zero, suc, ◌<◌, ◌≤◌, Bool, true, false, cond, List, [], ◌∷◌, ◌++◌, ◌||◌, length, get_or, set, inl, inr, refl, arith}
+use Rattle.std.proofs.Common.{◌≡◌, ℕ, zero, suc, ◌<◌, Bool, true, false, cond, List, [], ◌∷◌, ◌++◌, ◌||◌, length, get_or, set, inl, inr, refl, arith}
 use Rattle.std.specs.List.{filter, swap}
 use Rattle.std.specs.List.Sorted.{IsPermutation}
 use Rattle.pf_model.proofs.OrderLemmas.{In}

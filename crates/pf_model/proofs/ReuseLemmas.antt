@@ -1,8 +1,7 @@
 -- Kept lists at the build.
 use Rattle.std.proofs.Common.{◌≡◌, ℕ, Bool, true, false, List, [], ◌∷◌, map, Option, Some, None, unwrap_or, inl, inr, refl, sym, ◌∙◌, ap, subst, cond}
-use Rattle.std.specs.List.{filter, find, list_any, Contains, IsDistinct, AllByRecursion}
+use Rattle.std.specs.List.{filter, find, list_any, IsDistinct, AllByRecursion}
 use Rattle.std.specs.Prelude.{nat_eq}
-use Rattle.std.specs.List.Sorted.{IsPermutation}
 use Rattle.std.proofs.lemmas.Bool.{cond_both, eqb-true, eq-eqb, false≢true, or_left, or_right, or_cases}
 use Rattle.std.proofs.lemmas.Map.Keys.{IsDistinct-IsPermutation}
 use Rattle.std.proofs.lemmas.List.Sorted.{IsPermutation-map}
@@ -14,13 +13,13 @@ use Rattle.pf_model.specs.Particle.{Particle}
 use Rattle.pf_model.specs.Particles.{HaveDistinctIds}
 use Rattle.pf_model.specs.Criterion.{Criterion}
 use Rattle.pf_model.specs.Sums.{moment_of}
-use Rattle.pf_model.specs.Interaction.{level_of, leads_to_cell, entry_at, entry_of, list_of, members_of}
-use Rattle.pf_model.specs.Reuse.{present, present_entry, kept_list}
+use Rattle.pf_model.specs.Interaction.{level_of, leads_to_cell, entry_at, list_of, members_of}
+use Rattle.pf_model.specs.Reuse.{present_entry, kept_list}
 use Rattle.pf_model.specs.ReuseLaws.{KeptListsBeginAsLists, PresentBeginsAsBuilt}
 use Rattle.pf_model.specs.ParticleLaws.{ParticlesOfOneIdAreOne, DistinctIdsIgnoreOrder, SomeHaveDistinctIds}
 use Rattle.pf_model.proofs.OrderLemmas.{In}
 use Rattle.pf_model.proofs.EntryLemmas.{same_from_id}
-use Rattle.pf_model.proofs.ListLemmas.{in_from_contains, contains_from_in, keeps, list-sound, eqb_flips}
+use Rattle.pf_model.proofs.ListLemmas.{in_from_contains, keeps, list-sound, eqb_flips}
 use Rattle.pf_model.proofs.MemberLemmas.{in_filter}
 use Rattle.pf_model.proofs.ListCellLemmas.{same_tests}
 

@@ -1,8 +1,8 @@
 -- The items of an outer list in the entries of an inner one.
-use Rattle.std.proofs.Common.{◌≡◌, ℕ, ◌<◌, ◌≤◌, Bool, true, false, cond, ◌||◌, ◌&&◌, List, [], ◌∷◌, ◌++◌, length, get_or, map, Option, Some, None, is_none, inl, inr, refl, sym, ◌∙◌, ap, subst, arith, rules}
-use Rattle.std.specs.List.{filter, list_any, All, Contains, IsDistinct}
-use Rattle.std.proofs.lemmas.Bool.{cases_lt, cond_both, cond-true, cond-false, and_parts, and_from, eqb-true, eqb-false, eq-eqb, leb-true, le-leb, false≢true, false_from_ne_true, or_cases}
-use Rattle.std.proofs.lemmas.List.{get_or_default, append-nil}
+use Rattle.std.proofs.Common.{◌≡◌, ℕ, ◌<◌, ◌≤◌, Bool, true, false, ◌||◌, List, [], ◌∷◌, ◌++◌, length, get_or, Option, Some, None, is_none, inl, inr, refl, sym, ◌∙◌, ap, subst, arith, rules}
+use Rattle.std.specs.List.{filter, list_any, Contains, IsDistinct}
+use Rattle.std.proofs.lemmas.Bool.{cases_lt, cond_both, cond-true, cond-false, and_parts, and_from, eqb-true, eq-eqb, leb-true, le-leb, false≢true, false_from_ne_true}
+use Rattle.std.proofs.lemmas.List.{get_or_default}
 use Rattle.std.proofs.lemmas.List.Elements.{All-contains, Contains-get_or}
 use Rattle.pf_geom.specs.Position.{Position, IsPosition}
 use Rattle.pf_geom.specs.Bounds.{Bounds, IsBox, IsInBox, IsWithin}
@@ -13,19 +13,16 @@ use Rattle.pf_model.specs.declared.entry.Entry.TheVariants.{Cell, One}
 use Rattle.pf_model.specs.Particle.{Particle}
 use Rattle.pf_model.specs.Particles.{HaveDistinctIds}
 use Rattle.pf_model.specs.Criterion.{Criterion, Passes}
-use Rattle.pf_model.specs.Totals.{Totals}
 use Rattle.pf_model.specs.Sums.{moment_of, together}
-use Rattle.pf_model.specs.Interaction.{level_of, is_cell, leads_to_cell, leads_to, entry_at, entry_of, comes_before, list_of}
-use Rattle.pf_model.specs.Group.{particles_in, box_of}
+use Rattle.pf_model.specs.Interaction.{level_of, leads_to_cell, leads_to, entry_at, entry_of, comes_before, list_of}
 use Rattle.pf_model.specs.Domains.{owner, domain_box}
 use Rattle.pf_model.specs.OpeningLaws.{CellsPassForBoxesInside}
-use Rattle.pf_model.specs.ListLaws.{IsFirstPassing, NonePasses}
 use Rattle.pf_model.specs.MomentLaws.{MomentsIgnoreOrder}
 use Rattle.pf_model.specs.GroupLaws.{BoxesAreLeast}
 use Rattle.pf_model.specs.DomainLaws.{DomainBoxesHoldWhatIsOwned}
 use Rattle.pf_model.specs.Sufficiency.{lies_in, items_in, entry_moment, moment_together, ItemsLieInOneEntry, EntriesAddUpTheirItems, BoxesLieInDomains}
 use Rattle.pf_model.proofs.OrderLemmas.{In, BeforeAll, IsAscending, before_each}
-use Rattle.pf_model.proofs.EntryLemmas.{comes_before-strict, same_from_id, same_cell, ids_differ, leads_to-itself}
+use Rattle.pf_model.proofs.EntryLemmas.{comes_before-strict, same_from_id, ids_differ, leads_to-itself}
 use Rattle.pf_model.proofs.ListLemmas.{in_from_contains, contains_from_in, keeps, one_place, list-ascends, list-sound, list-complete, entry-unique}
 use Rattle.pf_model.proofs.LevelLemmas.{none_from_level, level_from_none, first_from_level, level_from_first}
 use Rattle.pf_model.proofs.PermutationLemmas.{either_filter}

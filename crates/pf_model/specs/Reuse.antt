@@ -1,5 +1,5 @@
 -- Lists of a build that are kept while their particles move.
-use Rattle.std.specs.Prelude.{List, ◌∷◌, map, filter, find, unwrap_or, nat_eq}
+use Rattle.std.specs.Prelude.{List, map, filter, find, unwrap_or, nat_eq}
 use Rattle.std.specs.List.{list_any}
 use Rattle.pf_geom.specs.Bounds.{Bounds}
 use Rattle.pf_model.specs.declared.entry.Entry.{Entry}

@@ -1,6 +1,6 @@
 -- How the items of an essential tree make the entries of the lists that it serves.
 use Rattle.std.specs.Prelude.{◌≡◌, ℕ, ◌<◌, ◌↔◌, Bool, false, ◌&&◌, List, [], ◌∷◌, length, filter, All, Contains, IsTrue, slice_index_or, nat_le, nat_eq, ◌≤◌}
-use Rattle.pf_geom.specs.Position.{Position, IsPosition}
+use Rattle.pf_geom.specs.Position.{IsPosition}
 use Rattle.pf_geom.specs.Bounds.{Bounds, IsBox, IsWithin}
 use Rattle.pf_geom.specs.Octant.{cell_at, ancestor_at}
 use Rattle.pf_model.specs.declared.entry.Entry.{Entry}
