@@ -18,14 +18,17 @@ GapsAreBounded = (edge : Edge) (b : Bounds) (c : Octant) → IsBox b → IsCell 
 -- a box inside a box has a gap at least as great
 abbrev pub GapsGrowAsBoxesShrink : Type 0
 GapsGrowAsBoxesShrink =
-    (edge : Edge) (inner outer : Bounds) (c : Octant) → IsBox inner → IsBox outer → IsWithin inner outer → IsCell c → gap2_to edge outer c ≤ gap2_to edge inner c
+    (edge : Edge) (inner outer : Bounds) (c : Octant) → IsBox inner → IsBox outer → IsWithin inner outer → IsCell c →
+    gap2_to edge outer c ≤ gap2_to edge inner c
 
 -- a cell inside a cell has a gap at least as great
 abbrev pub GapsGrowAsCellsShrink : Type 0
 GapsGrowAsCellsShrink =
-    (edge : Edge) (b : Bounds) (inner outer : Octant) → IsBox b → IsCell inner → IsCell outer → IsInside inner outer → gap2_to edge b outer ≤ gap2_to edge b inner
+    (edge : Edge) (b : Bounds) (inner outer : Octant) → IsBox b → IsCell inner → IsCell outer → IsInside inner outer →
+    gap2_to edge b outer ≤ gap2_to edge b inner
 
 -- the gap is 0 exactly where the box and the cell share a position
 abbrev pub GapsVanishWhereShared : Type 0
 GapsVanishWhereShared =
-    (edge : Edge) (b : Bounds) (c : Octant) → IsBox b → IsCell c → (gap2_to edge b c ≡ 0) ↔ ((p : Position) × IsPosition p × IsInBox p b × IsIn p c)
+    (edge : Edge) (b : Bounds) (c : Octant) → IsBox b → IsCell c → (gap2_to edge b c ≡ 0) ↔
+    ((p : Position) × IsPosition p × IsInBox p b × IsIn p c)

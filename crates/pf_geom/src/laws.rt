@@ -1,8 +1,11 @@
 // The laws of keys, cells, boxes and gaps, each the contract of a function that does nothing when it
 // runs. A caller whose proof needs a law calls its function.
 
-ghost use Rattle.pf_geom.specs.CellLaws.{KeysInterleave, KeysAreDistinct, CellsHaveEqualFloors, PositionsHaveCells, CellsAreKeyRanges, CellsOfAPositionNest, PositionsShareLowerCells, CellsNest, CornersAreFloors, CornersLieInside, ClosedBoxesHoldTheirCells};
-ghost use Rattle.pf_geom.specs.BoxLaws.{BoxesRoundAreLeast, GapsAreBounded, GapsGrowAsBoxesShrink, GapsGrowAsCellsShrink, GapsVanishWhereShared};
+ghost use Rattle.pf_geom.specs.CellLaws.{KeysInterleave, KeysAreDistinct, CellsHaveEqualFloors, PositionsHaveCells};
+ghost use Rattle.pf_geom.specs.CellLaws.{CellsAreKeyRanges, CellsOfAPositionNest, PositionsShareLowerCells};
+ghost use Rattle.pf_geom.specs.CellLaws.{CellsNest, CornersAreFloors, CornersLieInside, ClosedBoxesHoldTheirCells};
+ghost use Rattle.pf_geom.specs.BoxLaws.{BoxesRoundAreLeast, GapsAreBounded, GapsGrowAsBoxesShrink};
+ghost use Rattle.pf_geom.specs.BoxLaws.{GapsGrowAsCellsShrink, GapsVanishWhereShared};
 
 /// The bits of a key are those of its position.
 pub fn keys_interleave()

@@ -6,7 +6,8 @@ use Rattle.pf_model.specs.Particle.{Particle}
 use Rattle.pf_model.specs.Particles.{HaveDistinctIds}
 use Rattle.pf_model.specs.Criterion.{Criterion}
 use Rattle.pf_model.specs.Division.{Division, IsDivision, rank_count}
-use Rattle.pf_model.specs.Domains.{Multisection, IsMultisection, owner_by, box_by, cuts_for, owner, particles_of, domain_box}
+use Rattle.pf_model.specs.Domains.{Multisection, IsMultisection, owner_by, box_by, cuts_for, owner, particles_of}
+use Rattle.pf_model.specs.Domains.{domain_box}
 use Rattle.pf_model.specs.EssentialTree.{essential_tree, particles_of_ranks}
 
 -- the owner of a position is one of the ranks
@@ -19,23 +20,27 @@ OwnersByCutsAreRanks = (s : Multisection) (p : Position) → IsMultisection s �
 
 -- the cuts that particles make are those of a multisection: they ascend
 abbrev pub CutsAscend : Type 0
-CutsAscend = (g : Division) (js : List Particle) → IsDivision g → All (λ j. IsPosition j.at) js → IsMultisection (cuts_for g js)
+CutsAscend =
+    (g : Division) (js : List Particle) → IsDivision g → All (λ j. IsPosition j.at) js → IsMultisection (cuts_for g js)
 
 -- where a rank owns a position, its domain box by the cuts is a box, and holds exactly what the rank owns
 abbrev pub BoxesByCutsHoldWhatIsOwned : Type 0
 BoxesByCutsHoldWhatIsOwned =
     (s : Multisection) (q : Position) → IsMultisection s → IsPosition q →
-    IsBox (box_by s (owner_by s q)) × ((p : Position) → IsPosition p → (owner_by s p ≡ owner_by s q) ↔ IsInBox p (box_by s (owner_by s q)))
+    IsBox (box_by s (owner_by s q)) × ((p : Position) → IsPosition p → (owner_by s p ≡ owner_by s q) ↔
+    IsInBox p (box_by s (owner_by s q)))
 
 -- so does the domain box
 abbrev pub DomainBoxesHoldWhatIsOwned : Type 0
 DomainBoxesHoldWhatIsOwned =
     (g : Division) (js : List Particle) (q : Position) → IsDivision g → All (λ j. IsPosition j.at) js → IsPosition q →
-    IsBox (domain_box g js (owner g js q)) × ((p : Position) → IsPosition p → (owner g js p ≡ owner g js q) ↔ IsInBox p (domain_box g js (owner g js q)))
+    IsBox (domain_box g js (owner g js q)) × ((p : Position) → IsPosition p → (owner g js p ≡ owner g js q) ↔
+    IsInBox p (domain_box g js (owner g js q)))
 
 -- the order of particles changes no cut
 abbrev pub CutsIgnoreOrder : Type 0
-CutsIgnoreOrder = (g : Division) (js ks : List Particle) → HaveDistinctIds js → IsPermutation js ks → cuts_for g js ≡ cuts_for g ks
+CutsIgnoreOrder =
+    (g : Division) (js ks : List Particle) → HaveDistinctIds js → IsPermutation js ks → cuts_for g js ≡ cuts_for g ks
 
 -- so no owner and no domain box, and the particles of ranks in their order alone
 abbrev pub DomainsIgnoreOrder : Type 0
@@ -48,11 +53,13 @@ DomainsIgnoreOrder =
 -- and no essential tree
 abbrev pub EssentialTreesIgnoreOrder : Type 0
 EssentialTreesIgnoreOrder =
-    (t : Criterion) (g : Division) (js ks : List Particle) (src dst : ℕ) → HaveDistinctIds js → IsPermutation js ks → essential_tree t g js src dst ≡ essential_tree t g ks src dst
+    (t : Criterion) (g : Division) (js ks : List Particle) (src dst : ℕ) → HaveDistinctIds js → IsPermutation js ks →
+    essential_tree t g js src dst ≡ essential_tree t g ks src dst
 
 -- a list of one rank has the particles of this rank
 abbrev pub OneRankHasItsOwn : Type 0
-OneRankHasItsOwn = (g : Division) (js : List Particle) (rank : ℕ) → particles_of_ranks g js (rank ∷ []) ≡ particles_of g js rank
+OneRankHasItsOwn =
+    (g : Division) (js : List Particle) (rank : ℕ) → particles_of_ranks g js (rank ∷ []) ≡ particles_of g js rank
 
 -- a list of a rank and others has the particles of the one and of the others, up to their order
 abbrev pub RanksHaveTheirOwn : Type 0
@@ -63,9 +70,11 @@ RanksHaveTheirOwn =
 -- a list of all ranks has all particles
 abbrev pub AllRanksHaveAll : Type 0
 AllRanksHaveAll =
-    (g : Division) (js : List Particle) (ranks : List ℕ) → IsDivision g → ((rank : ℕ) → rank < rank_count g → Contains ranks rank) → particles_of_ranks g js ranks ≡ js
+    (g : Division) (js : List Particle) (ranks : List ℕ) → IsDivision g →
+    ((rank : ℕ) → rank < rank_count g → Contains ranks rank) → particles_of_ranks g js ranks ≡ js
 
 -- where there is one rank, it owns every position, and has all particles
 abbrev pub LoneRanksHaveAll : Type 0
 LoneRanksHaveAll =
-    (g : Division) (js : List Particle) → IsDivision g → rank_count g ≡ 1 → ((p : Position) → owner g js p ≡ 0) × (particles_of g js 0 ≡ js)
+    (g : Division) (js : List Particle) → IsDivision g → rank_count g ≡ 1 → ((p : Position) → owner g js p ≡ 0) ×
+    (particles_of g js 0 ≡ js)

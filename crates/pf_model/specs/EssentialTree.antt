@@ -16,7 +16,8 @@ tree_for (i ∷ is) items = items
 
 -- the essential tree that rank src sends rank dst
 unfoldable pub essential_tree : Criterion → Division → List Particle → ℕ → ℕ → List Entry
-essential_tree t g js src dst = tree_for (particles_of g js dst) (list_of t (domain_box g js dst) (particles_of g js src))
+essential_tree t g js src dst =
+    tree_for (particles_of g js dst) (list_of t (domain_box g js dst) (particles_of g js src))
 
 -- the particles of some ranks
 abbrev pub particles_of_ranks : Division → List Particle → List ℕ → List Particle

@@ -44,4 +44,5 @@ field_of_source Count s = pos s.count ∷ []
 
 -- the components along x, y and z, where those that aren't there are 0
 abbrev pub along_each_axis : List ℤ → List ℤ
-along_each_axis parts = slice_index_or parts 0 (pos 0) ∷ slice_index_or parts 1 (pos 0) ∷ slice_index_or parts 2 (pos 0) ∷ []
+along_each_axis parts =
+    slice_index_or parts 0 (pos 0) ∷ slice_index_or parts 1 (pos 0) ∷ slice_index_or parts 2 (pos 0) ∷ []

@@ -1,5 +1,6 @@
 -- Groups: particles of one rank that share an interaction list.
-use Rattle.std.specs.Prelude.{ℕ, ◌+◌, ◌-◌, ◌*◌, ◌^◌, Bool, List, [], ◌∷◌, length, map, filter, unwrap_or, nat_lt, nat_le}
+use Rattle.std.specs.Prelude.{ℕ, ◌+◌, ◌-◌, ◌*◌, ◌^◌, Bool, List, [], ◌∷◌, length, map, filter, unwrap_or, nat_lt}
+use Rattle.std.specs.Prelude.{nat_le}
 use Rattle.pf_geom.specs.declared.cell.TheConstants.{DEEPEST}
 use Rattle.pf_geom.specs.Position.{Position}
 use Rattle.pf_geom.specs.Bounds.{Bounds, box_round}
@@ -14,7 +15,8 @@ particles_in c js = filter (λ j. is_cell c (cell_at j.at c.level)) js
 
 -- the least level at which the position's cell has no more of these particles than the limit, or else the deepest
 unfoldable pub group_level : ℕ → List Particle → Position → ℕ
-group_level limit own p = unwrap_or (least_below (λ level. nat_le (length (particles_in (cell_at p level) own)) limit) (DEEPEST + 1)) DEEPEST
+group_level limit own p =
+    unwrap_or (least_below (λ level. nat_le (length (particles_in (cell_at p level) own)) limit) (DEEPEST + 1)) DEEPEST
 
 -- the cell of the group of a position
 abbrev pub group_cell : ℕ → List Particle → Position → Octant

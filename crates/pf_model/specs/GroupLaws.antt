@@ -1,5 +1,6 @@
 -- Laws of groups.
-use Rattle.std.specs.Prelude.{◌≡◌, ℕ, ◌<◌, ◌≤◌, ◌↔◌, List, length, IsTrue, All, AllPairs, Contains, IsPermutation, slice_index_or}
+use Rattle.std.specs.Prelude.{◌≡◌, ℕ, ◌<◌, ◌≤◌, ◌↔◌, List, length, IsTrue, All, AllPairs, Contains, IsPermutation}
+use Rattle.std.specs.Prelude.{slice_index_or}
 use Rattle.pf_geom.specs.declared.cell.TheConstants.{DEEPEST}
 use Rattle.pf_geom.specs.Position.{Position, IsPosition}
 use Rattle.pf_geom.specs.Bounds.{Bounds, IsBox, IsInBox, IsWithin}
@@ -17,17 +18,20 @@ pub record IsGroupLevel (limit : ℕ) (own : List Particle) (p : Position) (leve
 -- no other level is this
 abbrev pub GroupLevelsAreLeast : Type 0
 GroupLevelsAreLeast =
-    (limit : ℕ) (own : List Particle) (p : Position) (level : ℕ) → (level ≡ group_level limit own p) ↔ IsGroupLevel limit own p level
+    (limit : ℕ) (own : List Particle) (p : Position) (level : ℕ) → (level ≡ group_level limit own p) ↔
+    IsGroupLevel limit own p level
 
 -- a position in the cell of a group has this cell as that of its own group
 abbrev pub PositionsShareTheirGroup : Type 0
 PositionsShareTheirGroup =
-    (limit : ℕ) (own : List Particle) (p q : Position) → IsIn q (group_cell limit own p) → group_cell limit own q ≡ group_cell limit own p
+    (limit : ℕ) (own : List Particle) (p q : Position) → IsIn q (group_cell limit own p) →
+    group_cell limit own q ≡ group_cell limit own p
 
 -- the members of a particle's group are particles with this group, and it is one of them
 abbrev pub MembersShareTheirGroup : Type 0
 MembersShareTheirGroup =
-    (limit : ℕ) (own : List Particle) (i j : Particle) → Contains own i → Contains (group_of limit own i) i × (Contains (group_of limit own i) j ↔ (Contains own j × (group_cell limit own j.at ≡ group_cell limit own i.at)))
+    (limit : ℕ) (own : List Particle) (i j : Particle) → Contains own i → Contains (group_of limit own i) i ×
+    (Contains (group_of limit own i) j ↔ (Contains own j × (group_cell limit own j.at ≡ group_cell limit own i.at)))
 
 -- the cells of the groups of these particles, each once, in the order of the groups' numbers
 pub record AreGroupCells (limit : ℕ) (own : List Particle) (cells : List Octant) : Type 0 where
@@ -38,25 +42,29 @@ pub record AreGroupCells (limit : ℕ) (own : List Particle) (cells : List Octan
 -- no other list is this
 abbrev pub GroupCellsAreOrdered : Type 0
 GroupCellsAreOrdered =
-    (limit : ℕ) (own : List Particle) (cells : List Octant) → AreGroupCells limit own cells ↔ (cells ≡ group_cells limit own)
+    (limit : ℕ) (own : List Particle) (cells : List Octant) → AreGroupCells limit own cells ↔
+    (cells ≡ group_cells limit own)
 
 -- of these cells exactly one holds a particle
 abbrev pub EachIsInOneGroup : Type 0
 EachIsInOneGroup =
     (limit : ℕ) (own : List Particle) (j : Particle) → Contains own j →
-    (k : ℕ) × (k < length (group_cells limit own)) × ((i : ℕ) (c : Octant) → i < length (group_cells limit own) → IsIn j.at (slice_index_or (group_cells limit own) i c) ↔ (i ≡ k))
+    (k : ℕ) × (k < length (group_cells limit own)) × ((i : ℕ) (c : Octant) → i < length (group_cells limit own) →
+    IsIn j.at (slice_index_or (group_cells limit own) i c) ↔ (i ≡ k))
 
 -- the order of particles changes the cells of groups in nothing, and their members in their order alone
 abbrev pub GroupsIgnoreOrder : Type 0
 GroupsIgnoreOrder =
     (limit : ℕ) (js ks : List Particle) → IsPermutation js ks →
-    ((p : Position) → group_cell limit js p ≡ group_cell limit ks p) × (group_cells limit js ≡ group_cells limit ks) × ((c : Octant) → IsPermutation (particles_in c js) (particles_in c ks))
+    ((p : Position) → group_cell limit js p ≡ group_cell limit ks p) × (group_cells limit js ≡ group_cells limit ks) ×
+    ((c : Octant) → IsPermutation (particles_in c js) (particles_in c ks))
 
 -- with the limit 1 a group is what lies at one place
 abbrev pub GroupsOfOneAreOnePlace : Type 0
 GroupsOfOneAreOnePlace =
     (own : List Particle) (i : Particle) → All (λ j. IsPosition j.at) own → Contains own i →
-    ((j : Particle) → Contains own j → IsIn j.at (group_cell 1 own i.at) ↔ (j.at ≡ i.at)) × (box_of (group_of 1 own i) ≡ record { lo = i.at; hi = i.at })
+    ((j : Particle) → Contains own j → IsIn j.at (group_cell 1 own i.at) ↔ (j.at ≡ i.at)) ×
+    (box_of (group_of 1 own i) ≡ record { lo = i.at; hi = i.at })
 
 -- b is the least box round the particles
 pub record IsLeastRoundAll (js : List Particle) (b : Bounds) : Type 0 where

@@ -27,7 +27,8 @@ NonePasses t box p = (level : ℕ) → level ≤ DEEPEST → Passes box (cell_at
 -- the level of a position is the least at which its cell passes
 abbrev pub LevelsAreLeast : Type 0
 LevelsAreLeast =
-    (t : Criterion) (box : Bounds) (p : Position) → ((level_of t box p ≡ None) ↔ NonePasses t box p) × ((level : ℕ) → (level_of t box p ≡ Some level) ↔ IsFirstPassing t box p level)
+    (t : Criterion) (box : Bounds) (p : Position) → ((level_of t box p ≡ None) ↔ NonePasses t box p) ×
+    ((level : ℕ) → (level_of t box p ≡ Some level) ↔ IsFirstPassing t box p level)
 
 -- the entries that the particles js lead to, each once, in order
 pub record IsListOf (t : Criterion) (box : Bounds) (js : List Particle) (es : List Entry) : Type 0 where
@@ -38,18 +39,21 @@ pub record IsListOf (t : Criterion) (box : Bounds) (js : List Particle) (es : Li
 -- the list over particles is the one list of the entries that they lead to, each once, in order
 abbrev pub ListsHoldTheirEntries : Type 0
 ListsHoldTheirEntries =
-    (t : Criterion) (box : Bounds) (js : List Particle) (es : List Entry) → HaveDistinctIds js → IsListOf t box js es ↔ (es ≡ list_of t box js)
+    (t : Criterion) (box : Bounds) (js : List Particle) (es : List Entry) → HaveDistinctIds js →
+    IsListOf t box js es ↔ (es ≡ list_of t box js)
 
 -- of the entries of a list over particles, exactly one has the particle as a member
 abbrev pub EachIsInOneEntry : Type 0
 EachIsInOneEntry =
     (t : Criterion) (box : Bounds) (js : List Particle) (j : Particle) → HaveDistinctIds js → Contains js j →
-    (k : ℕ) × (k < length (list_of t box js)) × ((i : ℕ) (e : Entry) → i < length (list_of t box js) → Contains (members_of t box js (slice_index_or (list_of t box js) i e)) j ↔ (i ≡ k))
+    (k : ℕ) × (k < length (list_of t box js)) × ((i : ℕ) (e : Entry) → i < length (list_of t box js) →
+    Contains (members_of t box js (slice_index_or (list_of t box js) i e)) j ↔ (i ≡ k))
 
 -- the order of particles changes nothing in a list over them
 abbrev pub ListsIgnoreOrder : Type 0
 ListsIgnoreOrder =
-    (t : Criterion) (box : Bounds) (js ks : List Particle) → HaveDistinctIds js → IsPermutation js ks → list_of t box js ≡ list_of t box ks
+    (t : Criterion) (box : Bounds) (js ks : List Particle) → HaveDistinctIds js → IsPermutation js ks →
+    list_of t box js ≡ list_of t box ks
 
 -- a list is no longer than its particles
 abbrev pub ListsAreShort : Type 0
@@ -59,7 +63,8 @@ ListsAreShort = (t : Criterion) (box : Bounds) (js : List Particle) → length (
 abbrev pub FirstCellsHoldTheirMembers : Type 0
 FirstCellsHoldTheirMembers =
     (t : Criterion) (box : Bounds) (p : Position) (level : ℕ) (js : List Particle) → IsFirstPassing t box p level →
-    members_of t box js (Cell (cell_at p level) (moment_of (particles_in (cell_at p level) js))) ≡ particles_in (cell_at p level) js
+    members_of t box js (Cell (cell_at p level) (moment_of (particles_in (cell_at p level) js)))
+    ≡ particles_in (cell_at p level) js
 
 -- the cell passes, and no cell above it does
 pub record IsFirstCell (t : Criterion) (box : Bounds) (c : Octant) : Type 0 where
@@ -71,7 +76,8 @@ pub record IsFirstCell (t : Criterion) (box : Bounds) (c : Octant) : Type 0 wher
 abbrev pub ListsHoldFirstCells : Type 0
 ListsHoldFirstCells =
     (t : Criterion) (box : Bounds) (js : List Particle) (c : Octant) (m : Totals) → HaveDistinctIds js → IsCell c →
-    Contains (list_of t box js) (Cell c m) ↔ (IsFirstCell t box c × (1 ≤ length (particles_in c js)) × (m ≡ moment_of (particles_in c js)))
+    Contains (list_of t box js) (Cell c m) ↔ (IsFirstCell t box c × (1 ≤ length (particles_in c js)) ×
+    (m ≡ moment_of (particles_in c js)))
 
 -- a particle is in a list as itself exactly where none of its cells passes
 abbrev pub ListsHoldNearParticles : Type 0
@@ -81,4 +87,6 @@ ListsHoldNearParticles =
 
 -- so is each that lies in the box
 abbrev pub ParticlesInTheBoxAreNear : Type 0
-ParticlesInTheBoxAreNear = (t : Criterion) (box : Bounds) (p : Position) → IsCriterion t → IsBox box → IsPosition p → IsInBox p box → NonePasses t box p
+ParticlesInTheBoxAreNear =
+    (t : Criterion) (box : Bounds) (p : Position) → IsCriterion t → IsBox box → IsPosition p → IsInBox p box →
+    NonePasses t box p

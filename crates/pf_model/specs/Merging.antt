@@ -15,7 +15,8 @@ joined (One p) f = f
 -- a list in order with an entry put at its place, or joined with the one that stands there
 abbrev pub with_entry : Entry → List Entry → List Entry
 with_entry e [] = e ∷ []
-with_entry e (f ∷ fs) = cond (comes_before e f) (e ∷ f ∷ fs) (cond (comes_before f e) (f ∷ with_entry e fs) (joined e f ∷ fs))
+with_entry e (f ∷ fs) =
+    cond (comes_before e f) (e ∷ f ∷ fs) (cond (comes_before f e) (f ∷ with_entry e fs) (joined e f ∷ fs))
 
 -- two lists in order as one list in order
 unfoldable pub merged : List Entry → List Entry → List Entry

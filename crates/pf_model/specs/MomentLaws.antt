@@ -12,7 +12,8 @@ MomentsAddUp = (is js : List Particle) → moment_of (is ++ js) ≡ together (mo
 -- particles that have the same moment together with others have the same moment
 abbrev pub MomentsCancel : Type 0
 MomentsCancel =
-    (is js ks : List Particle) → together (moment_of is) (moment_of js) ≡ together (moment_of is) (moment_of ks) → moment_of js ≡ moment_of ks
+    (is js ks : List Particle) → together (moment_of is) (moment_of js) ≡ together (moment_of is) (moment_of ks) →
+    moment_of js ≡ moment_of ks
 
 -- the order of particles changes nothing in their moment
 abbrev pub MomentsIgnoreOrder : Type 0

@@ -14,4 +14,5 @@ DistinctIdsIgnoreOrder = (js ks : List Particle) → IsPermutation js ks → Hav
 
 -- and some of them have distinct ids too
 abbrev pub SomeHaveDistinctIds : Type 0
-SomeHaveDistinctIds = (test : Particle → Bool) (js : List Particle) → HaveDistinctIds js → HaveDistinctIds (filter test js)
+SomeHaveDistinctIds =
+    (test : Particle → Bool) (js : List Particle) → HaveDistinctIds js → HaveDistinctIds (filter test js)

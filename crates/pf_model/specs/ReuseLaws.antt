@@ -9,8 +9,10 @@ use Rattle.pf_model.specs.Reuse.{present, kept_list}
 
 -- at the build the kept list is the list
 abbrev pub KeptListsBeginAsLists : Type 0
-KeptListsBeginAsLists = (t : Criterion) (box : Bounds) (js : List Particle) → HaveDistinctIds js → kept_list t box js js ≡ list_of t box js
+KeptListsBeginAsLists =
+    (t : Criterion) (box : Bounds) (js : List Particle) → HaveDistinctIds js → kept_list t box js js ≡ list_of t box js
 
 -- and some of the particles are present as they are
 abbrev pub PresentBeginsAsBuilt : Type 0
-PresentBeginsAsBuilt = (test : Particle → Bool) (js : List Particle) → HaveDistinctIds js → present js (filter test js) ≡ filter test js
+PresentBeginsAsBuilt =
+    (test : Particle → Bool) (js : List Particle) → HaveDistinctIds js → present js (filter test js) ≡ filter test js

@@ -1,5 +1,6 @@
 -- How the items of an essential tree make the entries of the lists that it serves.
-use Rattle.std.specs.Prelude.{◌≡◌, ℕ, ◌<◌, ◌↔◌, Bool, false, ◌&&◌, List, [], ◌∷◌, length, filter, All, Contains, IsTrue, slice_index_or, nat_le, nat_eq, ◌≤◌}
+use Rattle.std.specs.Prelude.{◌≡◌, ℕ, ◌<◌, ◌↔◌, Bool, false, ◌&&◌, List, [], ◌∷◌, length, filter, All, Contains}
+use Rattle.std.specs.Prelude.{IsTrue, slice_index_or, nat_le, nat_eq, ◌≤◌}
 use Rattle.pf_geom.specs.Position.{IsPosition}
 use Rattle.pf_geom.specs.Bounds.{Bounds, IsBox, IsWithin}
 use Rattle.pf_geom.specs.Octant.{cell_at, ancestor_at}
@@ -39,17 +40,21 @@ moment_together (e ∷ es) = together (entry_moment e) (moment_together es)
 -- for a box inside a box, each item of the outer list lies in exactly one entry of the inner list
 abbrev pub ItemsLieInOneEntry : Type 0
 ItemsLieInOneEntry =
-    (t : Criterion) (inner outer : Bounds) (js : List Particle) (f : Entry) → IsBox inner → IsBox outer → IsWithin inner outer → HaveDistinctIds js → Contains (list_of t outer js) f →
-    (k : ℕ) × (k < length (list_of t inner js)) × ((i : ℕ) (e : Entry) → i < length (list_of t inner js) → IsTrue (lies_in f (slice_index_or (list_of t inner js) i e)) ↔ (i ≡ k))
+    (t : Criterion) (inner outer : Bounds) (js : List Particle) (f : Entry) → IsBox inner → IsBox outer →
+    IsWithin inner outer → HaveDistinctIds js → Contains (list_of t outer js) f →
+    (k : ℕ) × (k < length (list_of t inner js)) × ((i : ℕ) (e : Entry) → i < length (list_of t inner js) →
+    IsTrue (lies_in f (slice_index_or (list_of t inner js) i e)) ↔ (i ≡ k))
 
 -- and the moment of an entry is the sum over its items
 abbrev pub EntriesAddUpTheirItems : Type 0
 EntriesAddUpTheirItems =
-    (t : Criterion) (inner outer : Bounds) (js : List Particle) (e : Entry) → IsBox inner → IsBox outer → IsWithin inner outer → HaveDistinctIds js → Contains (list_of t inner js) e →
+    (t : Criterion) (inner outer : Bounds) (js : List Particle) (e : Entry) → IsBox inner → IsBox outer →
+    IsWithin inner outer → HaveDistinctIds js → Contains (list_of t inner js) e →
     entry_moment e ≡ moment_together (items_in e (list_of t outer js))
 
 -- the box round particles that a rank owns lies inside its domain box
 abbrev pub BoxesLieInDomains : Type 0
 BoxesLieInDomains =
-    (g : Division) (js members : List Particle) (rank : ℕ) → IsDivision g → All (λ j. IsPosition j.at) js → 1 ≤ length members → All (λ j. IsPosition j.at) members → All (λ j. owner g js j.at ≡ rank) members →
+    (g : Division) (js members : List Particle) (rank : ℕ) → IsDivision g → All (λ j. IsPosition j.at) js →
+    1 ≤ length members → All (λ j. IsPosition j.at) members → All (λ j. owner g js j.at ≡ rank) members →
     IsBox (box_of members) × IsBox (domain_box g js rank) × IsWithin (box_of members) (domain_box g js rank)

@@ -1,5 +1,6 @@
 -- The moment of particles, and what a kernel sees of them.
-use Rattle.std.specs.Prelude.{◌≡◌, ℕ, ◌+◌, ◌*◌, ◌/◌, ℤ, pos, ◌+ℤ◌, ◌-ℤ◌, List, [], ◌∷◌, length, sum_by, slice_index, slice_index_or}
+use Rattle.std.specs.Prelude.{◌≡◌, ℕ, ◌+◌, ◌*◌, ◌/◌, ℤ, pos, ◌+ℤ◌, ◌-ℤ◌, List, [], ◌∷◌, length, sum_by, slice_index}
+use Rattle.std.specs.Prelude.{slice_index_or}
 use Rattle.pf_model.specs.Particle.{Particle}
 use Rattle.pf_model.specs.Totals.{Totals, IsTotals, Source}
 
@@ -21,7 +22,8 @@ unfoldable pub moment_of : List Particle → Totals
 moment_of js = record {
   count = length js;
   mass = sum_by (λ j. j.mass) js;
-  weighted = sum_by (λ j. j.mass * j.at.x) js ∷ sum_by (λ j. j.mass * j.at.y) js ∷ sum_by (λ j. j.mass * j.at.z) js ∷ [];
+  weighted =
+      sum_by (λ j. j.mass * j.at.x) js ∷ sum_by (λ j. j.mass * j.at.y) js ∷ sum_by (λ j. j.mass * j.at.z) js ∷ [];
   attr =
       attribute_sum js 0 ∷ attribute_sum js 1 ∷ attribute_sum js 2 ∷ attribute_sum js 3
       ∷ attribute_sum js 4 ∷ attribute_sum js 5 ∷ attribute_sum js 6 ∷ attribute_sum js 7 ∷ [];
@@ -55,7 +57,8 @@ pub record IsRest (all some rest : Totals) : Type 0 where
   pub limits : IsTotals rest
   pub makes : all ≡ together some rest
 
--- the source that particles with this moment are: its centre is, along each axis, the floor of the weighted sum over the mass
+-- the source that particles with this moment are: its centre is, along each axis, the floor of the weighted sum over
+-- the mass
 abbrev pub source_of : Totals → Source
 source_of m = record {
   at = record {

@@ -1,7 +1,10 @@
 // The laws of domains and ranks, each the contract of a function that does nothing when it runs. A caller whose
 // proof needs a law calls its function.
 
-ghost use Rattle.pf_model.specs.DomainLaws.{OwnersAreRanks, OwnersByCutsAreRanks, OneRankHasItsOwn, AllRanksHaveAll, LoneRanksHaveAll, CutsAscend, BoxesByCutsHoldWhatIsOwned, DomainBoxesHoldWhatIsOwned, CutsIgnoreOrder, DomainsIgnoreOrder, EssentialTreesIgnoreOrder, RanksHaveTheirOwn};
+ghost use Rattle.pf_model.specs.DomainLaws.{OwnersAreRanks, OwnersByCutsAreRanks, OneRankHasItsOwn, AllRanksHaveAll};
+ghost use Rattle.pf_model.specs.DomainLaws.{LoneRanksHaveAll, CutsAscend, BoxesByCutsHoldWhatIsOwned};
+ghost use Rattle.pf_model.specs.DomainLaws.{DomainBoxesHoldWhatIsOwned, CutsIgnoreOrder, DomainsIgnoreOrder};
+ghost use Rattle.pf_model.specs.DomainLaws.{EssentialTreesIgnoreOrder, RanksHaveTheirOwn};
 
 /// The owner of a position is one of the ranks.
 pub fn owners_are_ranks()

@@ -41,7 +41,11 @@ impl Terms for Brand {
 
     ghost theta = { record { a = 0; b = 1; edge = Open } };
 
-    ghost is_criterion = { record { numerator_fits = lit≤ tt; denominator_positive = lit≤ tt; denominator_fits = lit≤ tt } };
+    ghost is_criterion = { record {
+      numerator_fits = lit≤ tt;
+      denominator_positive = lit≤ tt;
+      denominator_fits = lit≤ tt;
+    } };
 }
 
 /// The essential tree that rank `src` sends rank `dst`: what the particles of the one are to the

@@ -1,7 +1,9 @@
 // The laws of groups, each the contract of a function that does nothing when it runs. A caller whose
 // proof needs a law calls its function.
 
-ghost use Rattle.pf_model.specs.GroupLaws.{GroupLevelsAreLeast, PositionsShareTheirGroup, MembersShareTheirGroup, GroupCellsAreOrdered, EachIsInOneGroup, GroupsIgnoreOrder, GroupsOfOneAreOnePlace, BoxesAreLeast, BoxesIgnoreOrder};
+ghost use Rattle.pf_model.specs.GroupLaws.{GroupLevelsAreLeast, PositionsShareTheirGroup, MembersShareTheirGroup};
+ghost use Rattle.pf_model.specs.GroupLaws.{GroupCellsAreOrdered, EachIsInOneGroup, GroupsIgnoreOrder};
+ghost use Rattle.pf_model.specs.GroupLaws.{GroupsOfOneAreOnePlace, BoxesAreLeast, BoxesIgnoreOrder};
 
 use pf_geom::{cells_of_a_position_nest, keys_are_distinct, positions_share_lower_cells};
 

@@ -1,7 +1,9 @@
 // The laws of interaction lists, each the contract of a function that does nothing when it runs. A caller whose
 // proof needs a law calls its function.
 
-ghost use Rattle.pf_model.specs.ListLaws.{LevelsAreLeast, ListsHoldTheirEntries, EachIsInOneEntry, ListsIgnoreOrder, ListsAreShort, FirstCellsHoldTheirMembers, ListsHoldFirstCells, ListsHoldNearParticles, ParticlesInTheBoxAreNear};
+ghost use Rattle.pf_model.specs.ListLaws.{LevelsAreLeast, ListsHoldTheirEntries, EachIsInOneEntry, ListsIgnoreOrder};
+ghost use Rattle.pf_model.specs.ListLaws.{ListsAreShort, FirstCellsHoldTheirMembers, ListsHoldFirstCells};
+ghost use Rattle.pf_model.specs.ListLaws.{ListsHoldNearParticles, ParticlesInTheBoxAreNear};
 
 use crate::opening_laws::passing_cells_lie_apart;
 use pf_geom::{cells_of_a_position_nest, positions_have_cells, positions_share_lower_cells};

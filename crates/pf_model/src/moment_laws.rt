@@ -1,7 +1,8 @@
 // The laws of moments, each the contract of a function that does nothing when it runs. A caller whose
 // proof needs a law calls its function.
 
-ghost use Rattle.pf_model.specs.MomentLaws.{MomentsAddUp, MomentsCancel, MomentsIgnoreOrder, MomentsKeepTheirLimits, SourcesKeepTheirLimits};
+ghost use Rattle.pf_model.specs.MomentLaws.{MomentsAddUp, MomentsCancel, MomentsIgnoreOrder, MomentsKeepTheirLimits};
+ghost use Rattle.pf_model.specs.MomentLaws.{SourcesKeepTheirLimits};
 
 /// The moment of some particles and others is that of both together.
 pub fn moments_add_up()
