@@ -1,5 +1,5 @@
 -- The lists of a rank's groups, while the particles of other ranks are still to come.
-use Rattle.std.specs.Prelude.{◌≡◌, ℕ, ◌+◌, ◌^◌, ◌<◌, ◌≤◌, List, [], ◌∷◌, length, map, sum_by, All, Contains, IsPermutation}
+use Rattle.std.specs.Prelude.{◌≡◌, ℕ, ◌+◌, ◌<◌, ◌≤◌, List, [], ◌∷◌, length, map, sum_by, All, Contains, IsPermutation}
 use Rattle.pf_model.specs.declared.entry.Entry.{Entry}
 use Rattle.pf_model.specs.declared.limits.TheConstants.{MOST_PARTICLES}
 use Rattle.pf_model.specs.Particle.{Particle}
@@ -10,6 +10,7 @@ use Rattle.pf_model.specs.Group.{box_of}
 use Rattle.pf_model.specs.EssentialTree.{limited_list}
 use Rattle.morton_tree.specs.declared.group.Group.{Group}
 use Rattle.morton_tree.specs.Spans.{at_span}
+use Rattle.group_lists.specs.declared.gather.TheConstants.{MOST_ENTRIES}
 
 -- a gather as clauses see it: its rank, the particles of this rank, their groups, and the ranks whose
 -- particles were absorbed
@@ -49,5 +50,5 @@ pub record IsGathered (t : Criterion) (g : Division) (js : List Particle) (gathe
   pub few : length gather.groups ≤ MOST_PARTICLES
   pub of_own : All (IsGroupOf gather.own) gather.groups
   pub counted : count ≡ gathered_count t g js gather
-  pub kept : count ≤ 2 ^ 24 → lists ≡ map (partial_list t g js gather) gather.groups
-  pub bounded : sum_by length lists ≤ 2 ^ 24
+  pub kept : count ≤ MOST_ENTRIES → lists ≡ map (partial_list t g js gather) gather.groups
+  pub bounded : sum_by length lists ≤ MOST_ENTRIES

@@ -1,4 +1,4 @@
-ghost use Rattle.std.specs.Prelude.{◌≡◌, ◌^◌, ◌<◌, ◌≤◌, IfOk, All, Contains, IsPermutation, [], length, map, slice_get, Some, sum_by};
+ghost use Rattle.std.specs.Prelude.{◌≡◌, ◌<◌, ◌≤◌, IfOk, All, Contains, IsPermutation, [], length, map, slice_get, Some, sum_by};
 ghost use Rattle.pf_model.specs.Division.{rank_count};
 ghost use Rattle.pf_model.specs.Domains.{particles_of};
 ghost use Rattle.pf_model.specs.Interaction.{list_of};
@@ -19,8 +19,8 @@ use std::alloc::Global;
 use std::marker::{Model, PhantomData};
 use std::sync::ledger::Ledger;
 
-// The most entries that are kept.
-const MOST_ENTRIES: u64 = 1 << 24;
+/// The most entries that the lists of a rank's groups have together, and the most that are kept.
+pub const MOST_ENTRIES: u64 = 1 << 24;
 
 /// The interaction lists of the groups of one rank, over its own particles.
 #[derive(Drop)]
@@ -88,20 +88,20 @@ impl<T: Terms> Gather<T> {
     }
 
     /// The list of a group over the particles gathered so far, where all lists together have at most
-    /// 2^24 entries: past that they are counted, and not kept.
+    /// `MOST_ENTRIES`: past that they are counted, and not kept.
     pub fn partial(&self, group: u32) -> &[Entry]
         requires within { group < length self.now.groups }
-        requires few { gathered_count T.theta T.grid T.particles self.now ≤ 2 ^ 24 }
+        requires few { gathered_count T.theta T.grid T.particles self.now ≤ MOST_ENTRIES }
         ensures { slice_get (map (partial_list T.theta T.grid T.particles self.now) self.now.groups) group
             ≡ Some result.now }
     {
         &self.listed[group as usize].entries
     }
 
-    /// The lists, when the particles of all ranks are in and they have at most 2^24 entries together.
+    /// The lists, when the particles of all ranks are in and they have at most `MOST_ENTRIES` together.
     pub fn finish(self, _alloc: Global) -> Result<Lists, OutOfMemory>
         requires whole { IsWhole T.grid self }
-        requires few { gathered_count T.theta T.grid T.particles self ≤ 2 ^ 24 }
+        requires few { gathered_count T.theta T.grid T.particles self ≤ MOST_ENTRIES }
         ensures bodies { IfOk result (λ lists. map (λ l. l.bodies) lists
             ≡ map (λ g. at_span g.span self.own) self.groups) }
         ensures entries { IfOk result (λ lists. map (λ l. l.entries) lists
@@ -126,9 +126,9 @@ fn list_groups<L: Ledger>(
     ensures each { IfOk result (λ r. map (λ l. l.group) r.0.items ≡ groups.now) }
     ensures count { IfOk result (λ r. r.1
         ≡ sum_by (λ g. length (list_of t g.around tree.now.built)) groups.now) }
-    ensures lists { IfOk result (λ r. r.1 ≤ 2 ^ 24 → map (λ l. l.entries.items) r.0.items
+    ensures lists { IfOk result (λ r. r.1 ≤ MOST_ENTRIES → map (λ l. l.entries.items) r.0.items
         ≡ map (λ g. list_of t g.around tree.now.built) groups.now) }
-    ensures bounded { IfOk result (λ r. sum_by length (map (λ l. l.entries.items) r.0.items) ≤ 2 ^ 24) }
+    ensures bounded { IfOk result (λ r. sum_by length (map (λ l. l.entries.items) r.0.items) ≤ MOST_ENTRIES) }
 {
     let mut listed = Vec::with_capacity(alloc, groups.len())?;
     let mut scratch = Vec::new(alloc);
@@ -146,8 +146,8 @@ fn list_groups<L: Ledger>(
 
 // The entries, unless there are too many of all lists to keep.
 fn while_few(alloc: Global, count: u64, entries: Vec<Entry>) -> Vec<Entry>
-    ensures few { count ≤ 2 ^ 24 → result.items ≡ entries.items }
-    ensures many { 2 ^ 24 < count → result.items ≡ [] }
+    ensures few { count ≤ MOST_ENTRIES → result.items ≡ entries.items }
+    ensures many { MOST_ENTRIES < count → result.items ≡ [] }
 {
     if count <= MOST_ENTRIES {
         entries

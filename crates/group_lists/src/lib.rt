@@ -8,5 +8,5 @@ mod listed;
 mod lists;
 mod scan;
 
-pub use gather::Gather;
+pub use gather::{Gather, MOST_ENTRIES};
 pub use lists::{HasLists, Lists};

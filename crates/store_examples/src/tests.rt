@@ -2,3 +2,4 @@ mod decimals;
 mod files;
 mod gates;
 mod memory;
+mod signals;

@@ -2,7 +2,7 @@ ghost use Rattle.std.specs.Prelude.{◌≡◌, ◌<◌, length};
 ghost use Rattle.pf_model.specs.Division.{rank_count};
 
 use super::bodies::{body, two_close_and_one_far};
-use group_lists::{Gather, HasLists, Lists};
+use group_lists::{Gather, HasLists, Lists, MOST_ENTRIES};
 use morton_tree::Tree;
 use pf_geom::Edge;
 use pf_model::{Body, Entry, Steps, Terms, Theta, lone_ranks_have_all};
@@ -54,7 +54,7 @@ fn lists_of<T: Terms + Send + Sync, L: Ledger>(
     let mut steps = Steps::new(blank);
     let gather = Gather::<T>::open::<L>(alloc, 0, 1, &tree, &groups, t, &mut steps)?;
     goes_between_threads(&gather);
-    if gather.count() > 1 << 24 {
+    if gather.count() > MOST_ENTRIES {
         return Err(OutOfMemory);
     }
     gather.finish(alloc)

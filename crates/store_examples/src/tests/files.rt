@@ -41,13 +41,19 @@ fn a_folder_cannot_be_read(rt: HostRuntime) {
 fn nothing_is_created_in_a_folder_that_is_not_there(rt: HostRuntime) {
     let mut store = FileStore::new(&rt);
     assert_eq!(rt; store.create("no_such_folder/out"), Err(StoreErr::Failed));
-    assert_eq!(rt; write_all(&mut store, b"hello"), Err(WriteFault::WriteFailed));
+    assert_eq!(rt;
+        write_all(&mut store, b"hello"),
+        Err(WriteFault::WriteFailed)
+    );
 }
 
 #[test]
 fn a_full_device_takes_nothing(rt: HostRuntime) -> Result<(), Fail> {
     let mut store = FileStore::new(&rt);
     store.create("/dev/full")?;
-    assert_eq!(rt; write_all(&mut store, b"hello"), Err(WriteFault::WriteFailed));
+    assert_eq!(rt;
+        write_all(&mut store, b"hello"),
+        Err(WriteFault::WriteFailed)
+    );
     Ok(())
 }
