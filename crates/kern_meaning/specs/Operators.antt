@@ -180,18 +180,20 @@ abbrev pub and_value : OrStop Value → OrStop Value → OrStop Value
 and_value left right = do
   value ← left
   a ← truth value
-  if a then (do other ← right
-                b ← truth other
-                Ok (Condition b)) else Ok (Condition false)
+  if a then (do
+    other ← right
+    b ← truth other
+    Ok (Condition b)) else Ok (Condition false)
 
 -- a || b: the right operand counts only where the left is false
 abbrev pub or_value : OrStop Value → OrStop Value → OrStop Value
 or_value left right = do
   value ← left
   a ← truth value
-  if a then Ok (Condition true) else (do other ← right
-                                         b ← truth other
-                                         Ok (Condition b))
+  if a then Ok (Condition true) else (do
+    other ← right
+    b ← truth other
+    Ok (Condition b))
 
 abbrev pub one_value : Op1 → Value → OrStop Value
 one_value op1s.Neg = negative_value

@@ -33,10 +33,19 @@ particle_of-limits ns within =
       slow = All-from_recursion IsVelocity (number_at ns 4 ∷ number_at ns 5 ∷ number_at ns 6 ∷ [])
           (velocity _ (column_within ns 4 within (omega arith)), (velocity _ (column_within ns 5 within (omega arith)), (velocity _ (column_within ns 6 within (omega arith)), tt)));
       heavy = record { positive = omega (arith, ints); fits = omega (arith, ints) };
-      small = All-from_recursion IsAttribute (number_at ns 8 ∷ number_at ns 9 ∷ number_at ns 10 ∷ number_at ns 11 ∷ replicate 4 (pos 0))
-          (attribute _ (column_within ns 8 within (omega arith)), (attribute _ (column_within ns 9 within (omega arith)),
-          (attribute _ (column_within ns 10 within (omega arith)), (attribute _ (column_within ns 11 within (omega arith)),
-          (omega arith, (omega arith, (omega arith, (omega arith, tt))))))));
+      small = All-from_recursion IsAttribute (number_at ns 8 ∷ number_at ns 9 ∷ number_at ns 10 ∷ number_at ns 11 ∷ replicate 4 (pos 0)) (
+        attribute _ (column_within ns 8 within (omega arith)),
+        (
+          attribute _ (column_within ns 9 within (omega arith)),
+          (
+            attribute _ (column_within ns 10 within (omega arith)),
+            (
+              attribute _ (column_within ns 11 within (omega arith)),
+              (omega arith, (omega arith, (omega arith, (omega arith, tt)))),
+            ),
+          ),
+        ),
+      );
     }
 
 -- a number that passes through 64 bits

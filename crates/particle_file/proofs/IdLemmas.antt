@@ -37,11 +37,11 @@ has_id-push ps p k q old new is added held =
     ∙ by_cases (eqb p.id q) old
     ∙ ap (λ b. b || (eqb p.id q || false)) held
     ∙ sym (list_any-append (λ r. eqb r.id q) ps (p ∷ [])) where
-  by_cases : (b held : Bool) → cond b true held ≡ held || (b || false)
-  by_cases true true = refl
-  by_cases true false = refl
-  by_cases false true = refl
-  by_cases false false = refl
+      by_cases : (b held : Bool) → cond b true held ≡ held || (b || false)
+      by_cases true true = refl
+      by_cases true false = refl
+      by_cases false true = refl
+      by_cases false false = refl
 
 pub not_held : (a b : Bool) → a ≡ not b → a ≡ true → b ≡ false
 not_held a true e h = cc
@@ -63,6 +63,6 @@ fresh_id (q ∷ before) p ps distinct =
     let rest = IsDistinct-tail nat_eq q.id (map (λ r. r.id) (before ++ p ∷ ps)) distinct in
     let apart : eqb q.id p.id ≡ false = at_middle before p ps q.id head in
     rw apart (fresh_id before p ps rest) where
-  at_middle : (bs : List Particle) (p : Particle) (ps : List Particle) (id : ℕ) → AllByRecursion (λ y. nat_eq id y ≡ false) (map (λ r. r.id) (bs ++ p ∷ ps)) → eqb id p.id ≡ false
-  at_middle [] p ps id each = each.0
-  at_middle (b ∷ bs) p ps id each = at_middle bs p ps id each.1
+      at_middle : (bs : List Particle) (p : Particle) (ps : List Particle) (id : ℕ) → AllByRecursion (λ y. nat_eq id y ≡ false) (map (λ r. r.id) (bs ++ p ∷ ps)) → eqb id p.id ≡ false
+      at_middle [] p ps id each = each.0
+      at_middle (b ∷ bs) p ps id each = at_middle bs p ps id each.1

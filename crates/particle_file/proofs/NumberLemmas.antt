@@ -117,14 +117,39 @@ form_within p good =
     let a0 = attribute_limits (number_at p.attr 0) (good.limits.small 0 (pos 0) (omega arith)) in
     let a1 = attribute_limits (number_at p.attr 1) (good.limits.small 1 (pos 0) (omega arith)) in
     let a2 = attribute_limits (number_at p.attr 2) (good.limits.small 2 (pos 0) (omega arith)) in
-    let a3 = attribute_limits (number_at p.attr 3) (good.limits.small 3 (pos 0) (omega arith)) in
-    (omega (arith, ints), omega (arith, ints),
-    (omega (arith, ints), omega (arith, ints),
-    (omega (arith, ints), omega (arith, ints),
-    (omega (arith, ints), omega (arith, ints),
-    (v0.0, v0.1, (v1.0, v1.1, (v2.0, v2.1,
-    (omega (arith, ints), omega (arith, ints),
-    (a0.0, a0.1, (a1.0, a1.1, (a2.0, a2.1, (a3.0, a3.1, tt))))))))))))
+    let a3 = attribute_limits (number_at p.attr 3) (good.limits.small 3 (pos 0) (omega arith)) in (
+      omega (arith, ints),
+      omega (arith, ints),
+      (
+        omega (arith, ints),
+        omega (arith, ints),
+        (
+          omega (arith, ints),
+          omega (arith, ints),
+          (
+            omega (arith, ints),
+            omega (arith, ints),
+            (
+              v0.0,
+              v0.1,
+              (
+                v1.0,
+                v1.1,
+                (
+                  v2.0,
+                  v2.1,
+                  (
+                    omega (arith, ints),
+                    omega (arith, ints),
+                    (a0.0, a0.1, (a1.0, a1.1, (a2.0, a2.1, (a3.0, a3.1, tt)))),
+                  ),
+                ),
+              ),
+            ),
+          ),
+        ),
+      ),
+    )
 
 -- its numbers are within the limits of their columns
 pub numbers-within : (p : Particle) → IsParticle p → IsPlain p → AreWithin columns (numbers p)

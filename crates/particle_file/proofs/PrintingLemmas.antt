@@ -33,8 +33,8 @@ small_at (c ∷ cs) (n ∷ ns) narrow within =
     let high = narrow.0.1 in
     let first : unsigned_abs n < 2 ^ 64 = bounded c.least c.most n low high within.0 within.1 in
     (first, small_at cs ns narrow.1 within.2) where
-  bounded : (least most n : ℤ) → neg_ℤ (pos (2 ^ 47)) ≤ℤ least → most ≤ℤ pos (2 ^ 47) → least ≤ℤ n → n ≤ℤ most → unsigned_abs n < 2 ^ 64
-  bounded least most n a b low high = omega (arith, ints)
+      bounded : (least most n : ℤ) → neg_ℤ (pos (2 ^ 47)) ≤ℤ least → most ≤ℤ pos (2 ^ 47) → least ≤ℤ n → n ≤ℤ most → unsigned_abs n < 2 ^ 64
+      bounded least most n a b low high = omega (arith, ints)
 
 columns_narrow : AllByRecursion (λ c. (neg_ℤ (pos (2 ^ 47)) ≤ℤ c.least) × (c.most ≤ℤ pos (2 ^ 47))) columns
 columns_narrow =

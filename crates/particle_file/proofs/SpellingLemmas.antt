@@ -61,12 +61,14 @@ particle_in-spelled before line p found read =
     let ns = bind-ok (numbers_in line.number 1 columns line.fields) (λ ns. cond (list_any (λ q. eqb q.id (particle_of ns).id) before) (Err (faults.DuplicateId line.number)) (Ok (particle_of ns))) p read in
     let is = chosen (has_id before (particle_of ns.0).id) (faults.DuplicateId line.number) (particle_of ns.0) p ns.2 in
     let within = numbers_in-within line.number 1 columns line.fields ns.0 found ns.1 in
-    subst (λ q. SpellsParticle line q × (has_id before q.id ≡ false)) is.1
-    (record {
-      particle = particle_of-particle ns.0 within;
-      plain = particle_of-plain ns.0;
-      numbers = subst (SpellNumbers line.fields) (sym (numbers-particle_of ns.0 within)) (numbers_in-spelled line.number 1 columns line.fields ns.0 found ns.1);
-    }, is.0)
+    subst (λ q. SpellsParticle line q × (has_id before q.id ≡ false)) is.1 (
+      record {
+        particle = particle_of-particle ns.0 within;
+        plain = particle_of-plain ns.0;
+        numbers = subst (SpellNumbers line.fields) (sym (numbers-particle_of ns.0 within)) (numbers_in-spelled line.number 1 columns line.fields ns.0 found ns.1);
+      },
+      is.0,
+    )
 
 -- a particle that is spelled, and has a new id, is read
 particle_in-read : (before : List Particle) (line : FieldLine) (p : Particle) → IntegersAreFound → SpellsParticle line p → has_id before p.id ≡ false → particle_in before line ≡ Ok p

@@ -42,8 +42,8 @@ const ATTRIBUTE: Limits = Limits {
 
 // The columns of a line: id, position, velocity, mass, and the attributes c0 to c3.
 const COLUMNS: [Limits; 12] = [
-    ID, COORDINATE, COORDINATE, COORDINATE, VELOCITY, VELOCITY, VELOCITY, MASS, ATTRIBUTE, ATTRIBUTE,
-    ATTRIBUTE, ATTRIBUTE,
+    ID, COORDINATE, COORDINATE, COORDINATE, VELOCITY, VELOCITY, VELOCITY, MASS, ATTRIBUTE,
+    ATTRIBUTE, ATTRIBUTE, ATTRIBUTE,
 ];
 
 // The numbers of a line's columns.

@@ -79,7 +79,10 @@ fn count_in(line: Line<'_>) -> Result<u32, PartFault>
 fn two_of(line: Line<'_>) -> Option<(&[u8], &[u8])>
     ensures { option_map (λ p. (p.0.now, p.1.now)) result ≡ two_of line.entry.fields }
 {
-    let Line { number: _, mut fields } = line;
+    let Line {
+        number: _,
+        mut fields,
+    } = line;
     let key = fields.next_field()?;
     let value = fields.next_field()?;
     match fields.next_field() {

@@ -105,7 +105,10 @@ impl<R: Files + Print + Eprint + AllocGlobal + Drop> Store for FileStore<R> {
 
     fn say(&mut self, text: &[u8]) -> Result<(), StoreErr> {
         // The runtime makes an interrupted call again by itself.
-        let outcome = self.rt.write_all(text).map_err(|error| refusal(&self.rt, "standard output", error));
+        let outcome = self
+            .rt
+            .write_all(text)
+            .map_err(|error| refusal(&self.rt, "standard output", error));
         if outcome == Err(StoreErr::Failed) {
             self.faults.count_say();
         }

@@ -33,7 +33,10 @@ pub(crate) struct NamedFile<F> {
 
 impl<F: Read + Write> NamedFile<F> {
     // Opens a file to read.
-    pub(crate) fn open<R: Files<File = F> + Eprint + AllocGlobal>(rt: &R, name: &str) -> Result<NamedFile<F>, StoreErr> {
+    pub(crate) fn open<R: Files<File = F> + Eprint + AllocGlobal>(
+        rt: &R,
+        name: &str,
+    ) -> Result<NamedFile<F>, StoreErr> {
         let owned = String::from_str(rt.alloc(), name).map_err(|_| StoreErr::Memory)?;
         match opened(rt, name) {
             Ok(file) => Ok(NamedFile { name: owned, file }),
@@ -42,7 +45,10 @@ impl<F: Read + Write> NamedFile<F> {
     }
 
     // Creates a file to write, or empties it.
-    pub(crate) fn create<R: Files<File = F> + Eprint + AllocGlobal>(rt: &R, name: &str) -> Result<NamedFile<F>, StoreErr> {
+    pub(crate) fn create<R: Files<File = F> + Eprint + AllocGlobal>(
+        rt: &R,
+        name: &str,
+    ) -> Result<NamedFile<F>, StoreErr> {
         let owned = String::from_str(rt.alloc(), name).map_err(|_| StoreErr::Memory)?;
         match created(rt, name) {
             Ok(file) => Ok(NamedFile { name: owned, file }),
@@ -65,7 +71,11 @@ impl<F: Read + Write> NamedFile<F> {
         ensures some { IfOk result (λ n. 0 < length piece.now → 0 < n) }
     {
         match write_some(&mut self.file, piece) {
-            Ok(0) if !piece.is_empty() => Err(refusal(rt, self.name.as_str(), Error::from(ErrorKind::WriteZero))),
+            Ok(0) if !piece.is_empty() => Err(refusal(
+                rt,
+                self.name.as_str(),
+                Error::from(ErrorKind::WriteZero),
+            )),
             Ok(n) => Ok(n),
             Err(error) => Err(refusal(rt, self.name.as_str(), error)),
         }
