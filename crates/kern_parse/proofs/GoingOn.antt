@@ -9,6 +9,7 @@ use Rattle.kern_tree.specs.FirstFault.{CanGoOn}
 use Rattle.kern_tree.specs.Grammar.{stmt, SpellsKernel}
 use Rattle.kern_tree.specs.Nodes.{stmt_nodes, kernel_nodes}
 use Rattle.kern_tree.specs.Rules.{many}
+use Rattle.kern_tree.specs.Unrolled.{TreesByForm}
 use Rattle.kern_parse.specs.Required.{Part, Move, move, moves, are_optional}
 use Rattle.kern_parse.proofs.Fillings.{AllAt, fillings, fillings_at, all_filled}
 use Rattle.kern_parse.proofs.FirstTokens.{mark}
@@ -96,16 +97,16 @@ kernel_read tokens spelled h =
       ap (λ (whole : Kernel). kernel_nodes whole) k.3.0,
     )
 
-pub kernel_runs : (tokens later : List Token) (spelled : Kernel) → SpellsKernel (tokens ++ later) spelled → RunsTo start_parts tokens later (kernel_nodes spelled)
-kernel_runs tokens later spelled h = runs_to start_parts tokens later (kernel_nodes spelled) start_ready (kernel_read (tokens ++ later) spelled h)
+pub kernel_runs : TreesByForm → (tokens later : List Token) (spelled : Kernel) → SpellsKernel (tokens ++ later) spelled → RunsTo start_parts tokens later (kernel_nodes spelled)
+kernel_runs tree tokens later spelled h = runs_to tree start_parts tokens later (kernel_nodes spelled) start_ready (kernel_read (tokens ++ later) spelled h)
 
 -- ---- what is run through can go on to a kernel
 
-pub runs_back : (parts : List Part) (tokens : List Token) (those : List Part) (places : List ℕ) → Runs parts tokens those places → (later : List Token) (all : List ℕ) → parts_rule those later all [] → (whole : List ℕ) × parts_rule parts (tokens ++ later) whole []
-runs_back parts [] those places h later all k = (all, subst (λ ps. parts_rule ps later all []) h.0 k)
-runs_back parts (token ∷ tokens) those places h later all k =
-    let b = runs_back (h.0).then tokens those h.1 h.3 later all k in
-    stack_completed parts token h.0 h.2 (tokens ++ later) b.0 [] b.1
+pub runs_back : TreesByForm → (parts : List Part) (tokens : List Token) (those : List Part) (places : List ℕ) → Runs parts tokens those places → (later : List Token) (all : List ℕ) → parts_rule those later all [] → (whole : List ℕ) × parts_rule parts (tokens ++ later) whole []
+runs_back tree parts [] those places h later all k = (all, subst (λ ps. parts_rule ps later all []) h.0 k)
+runs_back tree parts (token ∷ tokens) those places h later all k =
+    let b = runs_back tree (h.0).then tokens those h.1 h.3 later all k in
+    stack_completed tree parts token h.0 h.2 (tokens ++ later) b.0 [] b.1
 
 pub kernel_of : (tokens : List Token) (all : List ℕ) → parts_rule start_parts tokens all [] → (spelled : Kernel) × SpellsKernel tokens spelled
 kernel_of tokens all h =
@@ -119,26 +120,26 @@ pub record GoesOnAt (place : ℕ) (tokens : List Token) : Type 0 where
   pub spelled : Kernel
   pub spells : SpellsKernel (tokens ++ later) spelled
 
-pub goes_on_at : (place : ℕ) (tokens : List Token) (those : List Part) (places : List ℕ) → Runs start_parts tokens those places → GoesOnAt place tokens
-goes_on_at place tokens those places h =
+pub goes_on_at : TreesByForm → (place : ℕ) (tokens : List Token) (those : List Part) (places : List ℕ) → Runs start_parts tokens those places → GoesOnAt place tokens
+goes_on_at tree place tokens those places h =
     let f = all_filled place those in
-    let b = runs_back start_parts tokens those places h (fillings place those) f.0 f.1 in
+    let b = runs_back tree start_parts tokens those places h (fillings place those) f.0 f.1 in
     let k = kernel_of (tokens ++ fillings place those) b.0 b.1 in
     record { later = fillings place those; all_at = fillings_at place those; spelled = k.0; spells = k.1 }
 
-pub can_go_on : (tokens : List Token) (those : List Part) (places : List ℕ) → Runs start_parts tokens those places → CanGoOn tokens
-can_go_on tokens those places h = let g = goes_on_at 0 tokens those places h in (g.later, g.spelled, g.spells)
+pub can_go_on : TreesByForm → (tokens : List Token) (those : List Part) (places : List ℕ) → Runs start_parts tokens those places → CanGoOn tokens
+can_go_on tree tokens those places h = let g = goes_on_at tree 0 tokens those places h in (g.later, g.spelled, g.spells)
 
 -- tokens that can go on are run through
-pub runs_of : (tokens : List Token) → CanGoOn tokens → (those : List Part) × (places : List ℕ) × Runs start_parts tokens those places
-runs_of tokens h = let r = kernel_runs tokens h.0 h.1 h.2 in (r.those, r.first, r.runs)
+pub runs_of : TreesByForm → (tokens : List Token) → CanGoOn tokens → (those : List Part) × (places : List ℕ) × Runs start_parts tokens those places
+runs_of tree tokens h = let r = kernel_runs tree tokens h.0 h.1 h.2 in (r.those, r.first, r.runs)
 
 -- ---- the whole kernel
 
-pub whole_runs : (tokens : List Token) (spelled : Kernel) → SpellsKernel tokens spelled → (those : List Part) × Runs start_parts tokens those (kernel_nodes spelled) × (are_optional those ≡ true)
-whole_runs tokens spelled h =
-    let r = kernel_runs tokens [] spelled (subst (λ ts. SpellsKernel ts spelled) (sym (append-nil tokens)) h) in
-    let e = stack_ends r.those r.more r.reads in
+pub whole_runs : TreesByForm → (tokens : List Token) (spelled : Kernel) → SpellsKernel tokens spelled → (those : List Part) × Runs start_parts tokens those (kernel_nodes spelled) × (are_optional those ≡ true)
+whole_runs tree tokens spelled h =
+    let r = kernel_runs tree tokens [] spelled (subst (λ ts. SpellsKernel ts spelled) (sym (append-nil tokens)) h) in
+    let e = stack_ends tree r.those r.more r.reads in
     (r.those, subst (λ ps. Runs start_parts tokens r.those ps) (sym (r.places_are ∙ ap (λ ps. r.first ++ ps) e.1 ∙ append-nil r.first)) r.runs, e.0)
 
 -- ---- the 513th node
@@ -157,11 +158,11 @@ get_at (q ∷ front) more zero place e = absurd (omega arith)
 get_at (q ∷ front) more (suc i) place e = get_at front more i place (omega arith)
 
 -- where few nodes were read, the 513th of a kernel that goes on can stand at another place than this
-pub no_node_here : (tokens : List Token) (those : List Part) (marks : List ℕ) (i place : ℕ) → Runs start_parts tokens those marks → length marks ≤ i
+pub no_node_here : TreesByForm → (tokens : List Token) (those : List Part) (marks : List ℕ) (i place : ℕ) → Runs start_parts tokens those marks → length marks ≤ i
     → ((later : List Token) (spelled : Kernel) → SpellsKernel (tokens ++ later) spelled → slice_get (kernel_nodes spelled) i ≡ Some place) → ⊥
-no_node_here tokens those marks i place runs few node =
-    let g = goes_on_at (suc place) tokens those marks runs in
-    let w = whole_runs (tokens ++ g.later) g.spelled g.spells in
+no_node_here tree tokens those marks i place runs few node =
+    let g = goes_on_at tree (suc place) tokens those marks runs in
+    let w = whole_runs tree (tokens ++ g.later) g.spelled g.spells in
     let s = runs_split start_parts tokens g.later w.0 (kernel_nodes g.spelled) w.1 in
     let o = one_run start_parts tokens those s.those marks s.first runs s.runs in
     let e : slice_get (s.first ++ s.more) i ≡ Some place = ap (λ ps. slice_get ps i) (sym s.places_are) ∙ node g.later g.spelled g.spells in

@@ -22,9 +22,9 @@ use Rattle.kern_tree.specs.declared.stmt.Stmt.{Stmt}
 use Rattle.pf_geom.specs.declared.axis.Axis.{Axis}
 use Rattle.pf_geom.specs.declared.axis.Axis.TheVariants as axes
 use Rattle.kern_tree.specs.Grammar.{decl_node, decl, field_of, axis_name, operator, relation, component, expr, stmt_node, stmt, stmt_over, block}
-use Rattle.kern_tree.proofs.Unrolling.{expr_from_over, stmt_from_over}
 use Rattle.kern_tree.specs.Nodes.{stmt_nodes}
 use Rattle.kern_tree.specs.Rules.{At, many}
+use Rattle.kern_tree.specs.Unrolled.{TreesByForm}
 use Rattle.kern_parse.specs.declared.operators.Level.{Level}
 use Rattle.kern_parse.specs.declared.operators.Level.TheVariants as levels
 use Rattle.kern_parse.specs.Required.{Part, Move, move, same_symbol, exactly_move, axis_at, axis_move, operand as operand_part, is_optional, moves, chosen}
@@ -304,26 +304,26 @@ completes_decls _ = tt
 
 -- ---- statements
 
-stmts_of : (statement : Stmt) (stmts : List Stmt) (before tokens between rest : List Token) → stmt_over stmt before statement tokens → many stmt tokens stmts between → between ≡ rest → (all : List ℕ) × part_rule Part.Stmts before all rest
-stmts_of statement stmts before tokens between rest h more e =
-    (flat_map stmt_nodes (statement ∷ stmts), (statement ∷ stmts, (tokens, stmt_from_over before statement tokens h, subst (λ ts. many stmt tokens stmts ts) e more), refl))
+stmts_of : TreesByForm → (statement : Stmt) (stmts : List Stmt) (before tokens between rest : List Token) → stmt_over stmt before statement tokens → many stmt tokens stmts between → between ≡ rest → (all : List ℕ) × part_rule Part.Stmts before all rest
+stmts_of tree statement stmts before tokens between rest h more e =
+    (flat_map stmt_nodes (statement ∷ stmts), (statement ∷ stmts, (tokens, tree.statements.back before statement tokens h, subst (λ ts. many stmt tokens stmts ts) e more), refl))
 
-completes_stmts : (kind : TokenKind) → Completes Part.Stmts kind
-completes_stmts (kinds.Name name) = λ place end tokens places rest h.
+completes_stmts : TreesByForm → (kind : TokenKind) → Completes Part.Stmts kind
+completes_stmts tree (kinds.Name name) = λ place end tokens places rest h.
     let value = h.4 in
     let semicolon = value.4 in
     let others = semicolon.4 in
-    stmts_of (stmt_node place ((h.3).0 name (value.3).0)) (others.3).0 _ semicolon.1 others.1 rest
-    (inl (record { place = place; held = name }, tokens, (end, refl), ((h.3).0, h.1, (h.3).1, ((value.3).0, value.1, expr_from_over h.1 (value.3).0 value.1 (value.3).1, ((semicolon.3).0, semicolon.1, (semicolon.3).1, (refl, refl))))))
+    stmts_of tree (stmt_node place ((h.3).0 name (value.3).0)) (others.3).0 _ semicolon.1 others.1 rest
+    (inl (record { place = place; held = name }, tokens, (end, refl), ((h.3).0, h.1, (h.3).1, ((value.3).0, value.1, tree.expressions.back h.1 (value.3).0 value.1 (value.3).1, ((semicolon.3).0, semicolon.1, (semicolon.3).1, (refl, refl))))))
     (others.3).1 others.4.1
-completes_stmts (kinds.Word words.If) = λ place end tokens places rest h.
+completes_stmts tree (kinds.Word words.If) = λ place end tokens places rest h.
     let body = h.4 in
     let otherwise = body.4 in
     let others = otherwise.4 in
-    stmts_of (stmt_node place (acts.If (h.3).0 (body.3).0 (otherwise.3).0)) (others.3).0 _ otherwise.1 others.1 rest
-    (inr (place, tokens, (end, refl), ((h.3).0, h.1, expr_from_over tokens (h.3).0 h.1 (h.3).1, ((body.3).0, body.1, (body.3).1, ((otherwise.3).0, otherwise.1, (otherwise.3).1, (refl, refl))))))
+    stmts_of tree (stmt_node place (acts.If (h.3).0 (body.3).0 (otherwise.3).0)) (others.3).0 _ otherwise.1 others.1 rest
+    (inr (place, tokens, (end, refl), ((h.3).0, h.1, tree.expressions.back tokens (h.3).0 h.1 (h.3).1, ((body.3).0, body.1, (body.3).1, ((otherwise.3).0, otherwise.1, (otherwise.3).1, (refl, refl))))))
     (others.3).1 others.4.1
-completes_stmts _ = tt
+completes_stmts tree _ = tt
 
 completes_block : (kind : TokenKind) → Completes Part.Block kind
 completes_block (kinds.Symbol symbols.OpenCurly) = λ place end tokens places rest h.
@@ -340,32 +340,32 @@ completes_else _ = tt
 
 -- ---- every part, and every stack
 
-completes : (part : Part) (kind : TokenKind) → Completes part kind
-completes Part.Decls = completes_decls
-completes Part.Stmts = completes_stmts
-completes Part.KindWord = completes_kind
-completes Part.CombineWord = completes_combine
-completes Part.Scale = completes_scale
-completes Part.Name = completes_name
-completes Part.Signed = completes_signed
-completes Part.Number = completes_number
-completes Part.Assign = completes_assign
-completes Part.Block = completes_block
-completes Part.ElseBlock = completes_else
-completes (Part.Exactly wanted) = completes_exactly wanted
-completes (Part.Chain levels.Or) = completes_over
-completes (Part.Chain levels.And) = completes_both
-completes (Part.Chain levels.Sum) = completes_sum
-completes (Part.Chain levels.Product) = completes_product
-completes (Part.More level) = completes_more level
-completes Part.Rel = completes_rel
-completes Part.MoreRel = completes_more_rel
-completes Part.Unary = completes_unary
-completes Part.Post = completes_post
-completes Part.MorePost = completes_more_post
-completes Part.Prim = completes_prim
-completes Part.ScaleIfAny = completes_scale_if_any
-completes Part.AxisName = completes_axis
+completes : TreesByForm → (part : Part) (kind : TokenKind) → Completes part kind
+completes tree Part.Decls = completes_decls
+completes tree Part.Stmts = completes_stmts tree
+completes tree Part.KindWord = completes_kind
+completes tree Part.CombineWord = completes_combine
+completes tree Part.Scale = completes_scale
+completes tree Part.Name = completes_name
+completes tree Part.Signed = completes_signed
+completes tree Part.Number = completes_number
+completes tree Part.Assign = completes_assign
+completes tree Part.Block = completes_block
+completes tree Part.ElseBlock = completes_else
+completes tree (Part.Exactly wanted) = completes_exactly wanted
+completes tree (Part.Chain levels.Or) = completes_over tree
+completes tree (Part.Chain levels.And) = completes_both tree
+completes tree (Part.Chain levels.Sum) = completes_sum tree
+completes tree (Part.Chain levels.Product) = completes_product tree
+completes tree (Part.More level) = completes_more level
+completes tree Part.Rel = completes_rel tree
+completes tree Part.MoreRel = completes_more_rel
+completes tree Part.Unary = completes_unary tree
+completes tree Part.Post = completes_post tree
+completes tree Part.MorePost = completes_more_post
+completes tree Part.Prim = completes_prim tree
+completes tree Part.ScaleIfAny = completes_scale_if_any
+completes tree Part.AxisName = completes_axis
 
 -- what these parts spell from a token on
 abbrev pub SpellsFrom : List Part → List Token → List Token → Type 0
@@ -374,11 +374,11 @@ SpellsFrom parts tokens rest = (all : List ℕ) × parts_rule parts tokens all r
 joined_parts : (parts : List Part) (tokens between rest : List Token) (part : Part) (first more : List ℕ) → part_rule part tokens first between → parts_rule parts between more rest → parts_rule (part ∷ parts) tokens (first ++ more) rest
 joined_parts parts tokens between rest part first more h k = (first, between, more, h, k, refl)
 
-pub stack_completed : (parts : List Part) (token : Token) (found : Move) → moves parts token.kind ≡ Some found
+pub stack_completed : TreesByForm → (parts : List Part) (token : Token) (found : Move) → moves parts token.kind ≡ Some found
     → (tokens : List Token) (places : List ℕ) (rest : List Token) → parts_rule found.then tokens places rest → SpellsFrom parts (token ∷ tokens) rest
 unfolding moves
-stack_completed [] token found e tokens places rest h = absurd (let never : None ≡ Some found = e in cc)
-stack_completed (part ∷ parts) token found e tokens places rest h = go (move part token.kind) (is_optional part) (completes part token.kind) refl e (λ later. stack_completed parts token found later tokens places rest h)
+stack_completed tree [] token found e tokens places rest h = absurd (let never : None ≡ Some found = e in cc)
+stack_completed tree (part ∷ parts) token found e tokens places rest h = go (move part token.kind) (is_optional part) (completes tree part token.kind) refl e (λ later. stack_completed tree parts token found later tokens places rest h)
   where
     go : (moved : Option Move) (optional : Bool) → CompletesBy part token.kind moved → is_optional part ≡ optional → chosen moved optional parts (moves parts token.kind) ≡ Some found
         → (moves parts token.kind ≡ Some found → SpellsFrom parts (token ∷ tokens) rest) → SpellsFrom (part ∷ parts) (token ∷ tokens) rest

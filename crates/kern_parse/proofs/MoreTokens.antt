@@ -23,11 +23,10 @@ use Rattle.pf_geom.specs.declared.axis.Axis.TheVariants as axes
 use Rattle.kern_tree.specs.Grammar.{kind, combine, decl, field_of, force, param, signed, axis, axis_name, operator, component, sum, relation, expr, assignment, block, conditional, stmt_node, stmt_over, stmt}
 use Rattle.kern_tree.specs.Nodes.{expr_nodes, stmt_nodes}
 use Rattle.kern_tree.specs.Rules.{Rule, At, ◌>>◌, ◌or◌, pure, many, symbol}
+use Rattle.kern_tree.specs.Unrolled.{TreesByForm}
 use Rattle.kern_parse.specs.declared.operators.Level.{Level}
 use Rattle.kern_parse.specs.declared.operators.Level.TheVariants as levels
 use Rattle.kern_parse.specs.Required.{Part, move, same_symbol, operand as operand_part, is_optional}
-use Rattle.kern_tree.proofs.Unrolling.{stmt_to_over}
-use Rattle.kern_tree.proofs.NodeEquations.{nodes-set, nodes-give, nodes-if}
 use Rattle.kern_parse.proofs.PartRules.{decl_nodes, more_nodes, component_nodes, operators, operand_rule, more_rule, more_rel, scale_if_any, else_block, part_rule, parts_rule}
 use Rattle.kern_parse.proofs.FirstTokens.{Goes, ends, with_places, one_more, symbol_then, expr_then, prim_goes, post_goes, unary_goes, product_goes, sum_goes, rel_goes, both_goes, over_goes}
 
@@ -293,11 +292,11 @@ decls_go (declared ∷ decls) tokens rest h = inl (decl_goes declared decls toke
 abbrev assign_act : Rule (List ℕ → Expr → Act)
 assign_act = (symbol symbols.Assign >> pure acts.Set) or (symbol symbols.Add >> pure acts.Give)
 
-act_nodes_are : (act : List ℕ → Expr → Act) (tokens between : List Token) → assign_act tokens act between → (place : ℕ) (target : List ℕ) (value : Expr) → stmt_nodes (stmt_node place (act target value)) ≡ place ∷ expr_nodes value
-act_nodes_are act tokens between (inl h) place target value = ap (λ (a : List ℕ → Expr → Act). stmt_nodes (stmt_node place (a target value))) h.3.0 ∙ nodes-set place target value
-act_nodes_are act tokens between (inr h) place target value = ap (λ (a : List ℕ → Expr → Act). stmt_nodes (stmt_node place (a target value))) h.3.0 ∙ nodes-give place target value
+act_nodes_are : TreesByForm → (act : List ℕ → Expr → Act) (tokens between : List Token) → assign_act tokens act between → (place : ℕ) (target : List ℕ) (value : Expr) → stmt_nodes (stmt_node place (act target value)) ≡ place ∷ expr_nodes value
+act_nodes_are tree act tokens between (inl h) place target value = ap (λ (a : List ℕ → Expr → Act). stmt_nodes (stmt_node place (a target value))) h.3.0 ∙ tree.nodes.set place target value
+act_nodes_are tree act tokens between (inr h) place target value = ap (λ (a : List ℕ → Expr → Act). stmt_nodes (stmt_node place (a target value))) h.3.0 ∙ tree.nodes.give place target value
 
-module _ (statement : Stmt) (stmts : List Stmt) (tokens between rest : List Token) (more : many stmt between stmts rest) where
+module _ (tree : TreesByForm) (statement : Stmt) (stmts : List Stmt) (tokens between rest : List Token) (more : many stmt between stmts rest) where
   stmts_after : (before : List Token) → before ≡ between → parts_rule (Part.Stmts ∷ []) before (flat_map stmt_nodes stmts) rest
   stmts_after before e = one_more Part.Stmts before rest (flat_map stmt_nodes stmts) (stmts, subst (λ ts. many stmt ts stmts rest) (sym e) more, refl)
 
@@ -317,10 +316,10 @@ module _ (statement : Stmt) (stmts : List Stmt) (tokens between rest : List Toke
         moved = refl;
         more = expr_nodes value.0 ++ flat_map stmt_nodes stmts;
         reads = plain_then Part.Assign (Part.Chain levels.Or ∷ Part.Exactly symbols.Semicolon ∷ Part.Stmts ∷ []) h.1 act.1 rest _ (act.0, act.2, refl)
-            (expr_then (Part.Exactly symbols.Semicolon ∷ Part.Stmts ∷ []) value.0 act.1 value.1 rest _ value.2
+            (expr_then tree (Part.Exactly symbols.Semicolon ∷ Part.Stmts ∷ []) value.0 act.1 value.1 rest _ value.2
             (symbol_then symbols.Semicolon (Part.Stmts ∷ []) semicolon.0 value.1 semicolon.1 rest _ semicolon.2 (stmts_after semicolon.1 semicolon.3.1)));
         places_are = ap (λ (s : Stmt). stmt_nodes s ++ flat_map stmt_nodes stmts) semicolon.3.0
-            ∙ ap (λ ns. ns ++ flat_map stmt_nodes stmts) (act_nodes_are act.0 h.1 act.1 act.2 (h.0).place (h.0).held value.0);
+            ∙ ap (λ ns. ns ++ flat_map stmt_nodes stmts) (act_nodes_are tree act.0 h.1 act.1 act.2 (h.0).place (h.0).held value.0);
       }
 
   conditional_goes : conditional stmt tokens statement between → StmtGoes
@@ -335,7 +334,7 @@ module _ (statement : Stmt) (stmts : List Stmt) (tokens between rest : List Toke
         found = record { then = Part.Chain levels.Or ∷ Part.Block ∷ Part.ElseBlock ∷ Part.Stmts ∷ []; is_node = true };
         moved = refl;
         more = expr_nodes condition.0 ++ (flat_map stmt_nodes body.0 ++ (flat_map stmt_nodes others.0 ++ flat_map stmt_nodes stmts));
-        reads = expr_then (Part.Block ∷ Part.ElseBlock ∷ Part.Stmts ∷ []) condition.0 h.1 condition.1 rest _ condition.2 (
+        reads = expr_then tree (Part.Block ∷ Part.ElseBlock ∷ Part.Stmts ∷ []) condition.0 h.1 condition.1 rest _ condition.2 (
           flat_map stmt_nodes body.0,
           body.1,
           flat_map stmt_nodes others.0 ++ flat_map stmt_nodes stmts,
@@ -344,7 +343,7 @@ module _ (statement : Stmt) (stmts : List Stmt) (tokens between rest : List Toke
           refl,
         );
         places_are = ap (λ (s : Stmt). stmt_nodes s ++ flat_map stmt_nodes stmts) others.3.0
-            ∙ ap (λ ns. ns ++ flat_map stmt_nodes stmts) (nodes-if h.0 condition.0 body.0 others.0)
+            ∙ ap (λ ns. ns ++ flat_map stmt_nodes stmts) (tree.nodes.conditional h.0 condition.0 body.0 others.0)
             ∙ ap (λ ns. h.0 ∷ ns) (append_assoc (expr_nodes condition.0 ++ flat_map stmt_nodes body.0) (flat_map stmt_nodes others.0) (flat_map stmt_nodes stmts)
             ∙ append_assoc (expr_nodes condition.0) (flat_map stmt_nodes body.0) (flat_map stmt_nodes others.0 ++ flat_map stmt_nodes stmts));
       }
@@ -353,9 +352,9 @@ module _ (statement : Stmt) (stmts : List Stmt) (tokens between rest : List Toke
   stmt_goes (inl h) = assignment_goes h
   stmt_goes (inr h) = conditional_goes h
 
-stmts_go : (stmts : List Stmt) (tokens rest : List Token) → many stmt tokens stmts rest → GoesIfAny Part.Stmts tokens (flat_map stmt_nodes stmts) rest
-stmts_go [] tokens rest h = inr (refl, h, refl)
-stmts_go (statement ∷ stmts) tokens rest h = inl (stmt_goes statement stmts tokens h.0 rest h.2 (stmt_to_over tokens statement h.0 h.1))
+stmts_go : TreesByForm → (stmts : List Stmt) (tokens rest : List Token) → many stmt tokens stmts rest → GoesIfAny Part.Stmts tokens (flat_map stmt_nodes stmts) rest
+stmts_go tree [] tokens rest h = inr (refl, h, refl)
+stmts_go tree (statement ∷ stmts) tokens rest h = inl (stmt_goes tree statement stmts tokens h.0 rest h.2 (tree.statements.onward tokens statement h.0 h.1))
 
 block_goes : (body : List Stmt) (tokens rest : List Token) → block stmt tokens body rest → Goes Part.Block tokens (flat_map stmt_nodes body) rest
 block_goes body tokens rest h =
@@ -391,32 +390,32 @@ any_with_places : (part : Part) (tokens rest : List Token) (places others : List
 any_with_places part tokens rest places others e (inl g) = inl (with_places part tokens rest places others e g)
 any_with_places part tokens rest places others e (inr h) = inr (h.0, h.1, e ∙ h.2)
 
-chain_part_goes : (level : Level) (tokens : List Token) (value : Expr) (rest : List Token) → part_rule (Part.Chain level) tokens (expr_nodes value) rest → Goes (Part.Chain level) tokens (expr_nodes value) rest
-chain_part_goes levels.Or tokens value rest h = with_places _ tokens rest _ _ h.2 (over_goes tokens h.0 rest h.1)
-chain_part_goes levels.And tokens value rest h = with_places _ tokens rest _ _ h.2 (both_goes tokens h.0 rest h.1)
-chain_part_goes levels.Sum tokens value rest h = with_places _ tokens rest _ _ h.2 (sum_goes tokens h.0 rest h.1)
-chain_part_goes levels.Product tokens value rest h = with_places _ tokens rest _ _ h.2 (product_goes tokens h.0 rest h.1)
+chain_part_goes : TreesByForm → (level : Level) (tokens : List Token) (value : Expr) (rest : List Token) → part_rule (Part.Chain level) tokens (expr_nodes value) rest → Goes (Part.Chain level) tokens (expr_nodes value) rest
+chain_part_goes tree levels.Or tokens value rest h = with_places _ tokens rest _ _ h.2 (over_goes tree tokens h.0 rest h.1)
+chain_part_goes tree levels.And tokens value rest h = with_places _ tokens rest _ _ h.2 (both_goes tree tokens h.0 rest h.1)
+chain_part_goes tree levels.Sum tokens value rest h = with_places _ tokens rest _ _ h.2 (sum_goes tree tokens h.0 rest h.1)
+chain_part_goes tree levels.Product tokens value rest h = with_places _ tokens rest _ _ h.2 (product_goes tree tokens h.0 rest h.1)
 
-pub part_goes : (part : Part) (tokens : List Token) (places : List ℕ) (rest : List Token) → part_rule part tokens places rest → GoesIfAny part tokens places rest
-part_goes Part.Decls tokens places rest h = any_with_places _ tokens rest _ places h.2 (decls_go h.0 tokens rest h.1)
-part_goes Part.Stmts tokens places rest h = any_with_places _ tokens rest _ places h.2 (stmts_go h.0 tokens rest h.1)
-part_goes Part.KindWord tokens places rest h = inl (kind_goes tokens rest places h.2 h.0 h.1)
-part_goes Part.CombineWord tokens places rest h = inl (combine_goes tokens rest places h.2 h.0 h.1)
-part_goes Part.Scale tokens places rest h = inl (token_goes Part.Scale (kinds.Scale (h.0).held) (h.0).place (h.1).0 tokens rest places refl (h.1).1 h.2)
-part_goes Part.Name tokens places rest h = inl (token_goes Part.Name (kinds.Name (h.0).held) (h.0).place (h.1).0 tokens rest places refl (h.1).1 h.2)
-part_goes Part.Signed tokens places rest h = inl (signed_goes tokens rest places h.2 h.0 h.1)
-part_goes Part.Number tokens places rest h = inl (token_goes Part.Number (kinds.Number (h.0).held) (h.0).place (h.1).0 tokens rest places refl (h.1).1 h.2)
-part_goes Part.Assign tokens places rest h = inl (assign_goes tokens rest places h.2 h.0 h.1)
-part_goes Part.Block tokens places rest h = inl (with_places _ tokens rest _ places h.2 (block_goes h.0 tokens rest h.1))
-part_goes Part.ElseBlock tokens places rest h = any_with_places _ tokens rest _ places h.2 (else_goes h.0 tokens rest h.1)
-part_goes (Part.Exactly spelled) tokens places rest h = inl (token_goes (Part.Exactly spelled) (kinds.Symbol spelled) h.0 (h.1).0 tokens rest places (exactly_moved spelled) (h.1).1 h.2)
-part_goes (Part.Chain level) tokens places rest h = inl (with_places _ tokens rest _ places h.2 (chain_part_goes level tokens h.0 rest (h.0, h.1, refl)))
-part_goes (Part.More level) tokens places rest h = any_with_places _ tokens rest _ places h.2 (more_goes level h.0 tokens rest h.1)
-part_goes Part.Rel tokens places rest h = inl (with_places _ tokens rest _ places h.2 (rel_goes tokens h.0 rest h.1))
-part_goes Part.MoreRel tokens places rest h = any_with_places _ tokens rest _ places h.2 (more_rel_goes h.0 tokens rest h.1)
-part_goes Part.Unary tokens places rest h = inl (with_places _ tokens rest _ places h.2 (unary_goes tokens h.0 rest h.1))
-part_goes Part.Post tokens places rest h = inl (with_places _ tokens rest _ places h.2 (post_goes tokens h.0 rest h.1))
-part_goes Part.MorePost tokens places rest h = any_with_places _ tokens rest _ places h.2 (components_go h.0 tokens rest h.1)
-part_goes Part.Prim tokens places rest h = inl (with_places _ tokens rest _ places h.2 (prim_goes tokens h.0 rest h.1))
-part_goes Part.ScaleIfAny tokens places rest h = scale_if_any_goes tokens rest places h.2 h.0 h.1
-part_goes Part.AxisName tokens places rest h = inl (token_goes Part.AxisName (kinds.Name (axis_name h.0)) (h.1).0 ((h.1).1).0 tokens rest places (axis_moved h.0) ((h.1).1).1 h.2)
+pub part_goes : TreesByForm → (part : Part) (tokens : List Token) (places : List ℕ) (rest : List Token) → part_rule part tokens places rest → GoesIfAny part tokens places rest
+part_goes tree Part.Decls tokens places rest h = any_with_places _ tokens rest _ places h.2 (decls_go h.0 tokens rest h.1)
+part_goes tree Part.Stmts tokens places rest h = any_with_places _ tokens rest _ places h.2 (stmts_go tree h.0 tokens rest h.1)
+part_goes tree Part.KindWord tokens places rest h = inl (kind_goes tokens rest places h.2 h.0 h.1)
+part_goes tree Part.CombineWord tokens places rest h = inl (combine_goes tokens rest places h.2 h.0 h.1)
+part_goes tree Part.Scale tokens places rest h = inl (token_goes Part.Scale (kinds.Scale (h.0).held) (h.0).place (h.1).0 tokens rest places refl (h.1).1 h.2)
+part_goes tree Part.Name tokens places rest h = inl (token_goes Part.Name (kinds.Name (h.0).held) (h.0).place (h.1).0 tokens rest places refl (h.1).1 h.2)
+part_goes tree Part.Signed tokens places rest h = inl (signed_goes tokens rest places h.2 h.0 h.1)
+part_goes tree Part.Number tokens places rest h = inl (token_goes Part.Number (kinds.Number (h.0).held) (h.0).place (h.1).0 tokens rest places refl (h.1).1 h.2)
+part_goes tree Part.Assign tokens places rest h = inl (assign_goes tokens rest places h.2 h.0 h.1)
+part_goes tree Part.Block tokens places rest h = inl (with_places _ tokens rest _ places h.2 (block_goes h.0 tokens rest h.1))
+part_goes tree Part.ElseBlock tokens places rest h = any_with_places _ tokens rest _ places h.2 (else_goes h.0 tokens rest h.1)
+part_goes tree (Part.Exactly spelled) tokens places rest h = inl (token_goes (Part.Exactly spelled) (kinds.Symbol spelled) h.0 (h.1).0 tokens rest places (exactly_moved spelled) (h.1).1 h.2)
+part_goes tree (Part.Chain level) tokens places rest h = inl (with_places _ tokens rest _ places h.2 (chain_part_goes tree level tokens h.0 rest (h.0, h.1, refl)))
+part_goes tree (Part.More level) tokens places rest h = any_with_places _ tokens rest _ places h.2 (more_goes level h.0 tokens rest h.1)
+part_goes tree Part.Rel tokens places rest h = inl (with_places _ tokens rest _ places h.2 (rel_goes tree tokens h.0 rest h.1))
+part_goes tree Part.MoreRel tokens places rest h = any_with_places _ tokens rest _ places h.2 (more_rel_goes h.0 tokens rest h.1)
+part_goes tree Part.Unary tokens places rest h = inl (with_places _ tokens rest _ places h.2 (unary_goes tree tokens h.0 rest h.1))
+part_goes tree Part.Post tokens places rest h = inl (with_places _ tokens rest _ places h.2 (post_goes tree tokens h.0 rest h.1))
+part_goes tree Part.MorePost tokens places rest h = any_with_places _ tokens rest _ places h.2 (components_go h.0 tokens rest h.1)
+part_goes tree Part.Prim tokens places rest h = inl (with_places _ tokens rest _ places h.2 (prim_goes tree tokens h.0 rest h.1))
+part_goes tree Part.ScaleIfAny tokens places rest h = scale_if_any_goes tokens rest places h.2 h.0 h.1
+part_goes tree Part.AxisName tokens places rest h = inl (token_goes Part.AxisName (kinds.Name (axis_name h.0)) (h.1).0 ((h.1).1).0 tokens rest places (axis_moved h.0) ((h.1).1).1 h.2)

@@ -1,6 +1,7 @@
 -- Runs of the table: the parts that are required after some tokens, and the places of the nodes among them.
 use Rattle.std.proofs.Common.{◌≡◌, ◌⊎◌, ℕ, List, [], ◌∷◌, ◌++◌, true, ◌&&◌, IsTrue, Some, inl, inr, refl, sym, ap, ap₂, ◌∙◌, subst, append_assoc}
 use Rattle.kern_token.specs.declared.token.Token.{Token}
+use Rattle.kern_tree.specs.Unrolled.{TreesByForm}
 use Rattle.kern_parse.specs.Required.{Part, Move, move, is_optional, moves, are_optional}
 use Rattle.kern_parse.proofs.FirstTokens.{Goes, mark}
 use Rattle.kern_parse.proofs.MoreTokens.{part_goes}
@@ -25,10 +26,10 @@ pub record GoesOn (parts : List Part) (token : Token) (tokens : List Token) (pla
   pub reads : parts_rule found.then tokens more []
   pub places_are : places ≡ mark found.is_node token.place ++ more
 
-pub stack_goes : (parts : List Part) (token : Token) (tokens : List Token) (places : List ℕ) → Ready parts → parts_rule parts (token ∷ tokens) places [] → GoesOn parts token tokens places
-stack_goes [] token tokens places ready h = absurd (let never : token ∷ tokens ≡ [] = h.1 in cc)
-stack_goes (part ∷ parts) token tokens places ready h = go (part_goes part (token ∷ tokens) h.0 h.1 h.3)
-    (λ e. stack_goes parts token tokens h.2 ready.1 (subst (λ ts. parts_rule parts ts h.2 []) (sym e) h.4))
+pub stack_goes : TreesByForm → (parts : List Part) (token : Token) (tokens : List Token) (places : List ℕ) → Ready parts → parts_rule parts (token ∷ tokens) places [] → GoesOn parts token tokens places
+stack_goes tree [] token tokens places ready h = absurd (let never : token ∷ tokens ≡ [] = h.1 in cc)
+stack_goes tree (part ∷ parts) token tokens places ready h = go (part_goes tree part (token ∷ tokens) h.0 h.1 h.3)
+    (λ e. stack_goes tree parts token tokens h.2 ready.1 (subst (λ ts. parts_rule parts ts h.2 []) (sym e) h.4))
   where
     go : Goes part (token ∷ tokens) h.0 h.1 ⊎ (IsTrue (is_optional part) × (token ∷ tokens ≡ h.1) × (h.0 ≡ [])) → (token ∷ tokens ≡ h.1 → GoesOn parts token tokens h.2) → GoesOn (part ∷ parts) token tokens places
     go (inl g) later =
@@ -53,10 +54,10 @@ stack_goes (part ∷ parts) token tokens places ready h = go (part_goes part (to
           places_are = h.5 ∙ ap (λ ps. ps ++ h.2) k.2 ∙ l.places_are;
         }
 
-pub stack_ends : (parts : List Part) (places : List ℕ) → parts_rule parts [] places [] → (are_optional parts ≡ true) × (places ≡ [])
+pub stack_ends : TreesByForm → (parts : List Part) (places : List ℕ) → parts_rule parts [] places [] → (are_optional parts ≡ true) × (places ≡ [])
 unfolding are_optional
-stack_ends [] places h = (refl, h.0)
-stack_ends (part ∷ parts) places h = go (part_goes part [] h.0 h.1 h.3) (λ e. stack_ends parts h.2 (subst (λ ts. parts_rule parts ts h.2 []) (sym e) h.4))
+stack_ends tree [] places h = (refl, h.0)
+stack_ends tree (part ∷ parts) places h = go (part_goes tree part [] h.0 h.1 h.3) (λ e. stack_ends tree parts h.2 (subst (λ ts. parts_rule parts ts h.2 []) (sym e) h.4))
   where
     go : Goes part [] h.0 h.1 ⊎ (IsTrue (is_optional part) × ([] ≡ h.1) × (h.0 ≡ [])) → ([] ≡ h.1 → (are_optional parts ≡ true) × (h.2 ≡ [])) → (are_optional (part ∷ parts) ≡ true) × (places ≡ [])
     go (inl g) later = absurd (let never : [] ≡ g.token ∷ g.after = g.tokens_are in cc)
@@ -76,11 +77,11 @@ pub record RunsTo (parts : List Part) (tokens later : List Token) (places : List
   pub reads : parts_rule those later more []
   pub places_are : places ≡ first ++ more
 
-pub runs_to : (parts : List Part) (tokens later : List Token) (places : List ℕ) → Ready parts → parts_rule parts (tokens ++ later) places [] → RunsTo parts tokens later places
-runs_to parts [] later places ready h = record { those = parts; first = []; more = places; runs = (refl, refl); ready = ready; reads = h; places_are = refl }
-runs_to parts (token ∷ tokens) later places ready h =
-    let g = stack_goes parts token (tokens ++ later) places ready h in
-    let r = runs_to (g.found).then tokens later g.more g.ready g.reads in
+pub runs_to : TreesByForm → (parts : List Part) (tokens later : List Token) (places : List ℕ) → Ready parts → parts_rule parts (tokens ++ later) places [] → RunsTo parts tokens later places
+runs_to tree parts [] later places ready h = record { those = parts; first = []; more = places; runs = (refl, refl); ready = ready; reads = h; places_are = refl }
+runs_to tree parts (token ∷ tokens) later places ready h =
+    let g = stack_goes tree parts token (tokens ++ later) places ready h in
+    let r = runs_to tree (g.found).then tokens later g.more g.ready g.reads in
     record {
       those = r.those;
       first = mark (g.found).is_node token.place ++ r.first;

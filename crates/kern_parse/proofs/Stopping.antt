@@ -5,6 +5,7 @@ use Rattle.kern_token.specs.declared.token.Token.{Token}
 use Rattle.kern_tree.specs.declared.kernel.Kernel.{Kernel}
 use Rattle.kern_tree.specs.FirstFault.{end_of, StopsAt, RunOut, HasFault}
 use Rattle.kern_tree.specs.Grammar.{SpellsKernel}
+use Rattle.kern_tree.specs.Unrolled.{TreesByForm}
 use Rattle.kern_parse.specs.ReadingStops.{stop_here, stop_from, reading_stop, UnexpectedIsTheStop}
 use Rattle.kern_parse.specs.Required.{Part, Move, is_optional, moves, are_optional}
 use Rattle.kern_parse.proofs.Fillings.{filling, fillings, all_filled}
@@ -37,34 +38,34 @@ fillings_optional place (part ∷ parts) e =
     ap (λ ts. ts ++ fillings place parts) (filling_optional place part h.0) ∙ fillings_optional place parts h.1
 
 -- the tokens are a kernel's
-pub kernel_here : (tokens : List Token) (those : List Part) (marks : List ℕ) → Runs start_parts tokens those marks → are_optional those ≡ true → (spelled : Kernel) × SpellsKernel tokens spelled
-kernel_here tokens those marks runs optional =
+pub kernel_here : TreesByForm → (tokens : List Token) (those : List Part) (marks : List ℕ) → Runs start_parts tokens those marks → are_optional those ≡ true → (spelled : Kernel) × SpellsKernel tokens spelled
+kernel_here tree tokens those marks runs optional =
     let f = all_filled 0 those in
-    let b = runs_back start_parts tokens those marks runs [] f.0 (subst (λ ts. parts_rule those ts f.0 []) (fillings_optional 0 those optional) f.1) in
+    let b = runs_back tree start_parts tokens those marks runs [] f.0 (subst (λ ts. parts_rule those ts f.0 []) (fillings_optional 0 those optional) f.1) in
     let k = kernel_of (tokens ++ []) b.0 b.1 in
     (k.0, subst (λ ts. SpellsKernel ts k.0) (append-nil tokens) k.1)
 
 -- ---- more is required
 
-pub run_out : (tokens : List Token) (those : List Part) (marks : List ℕ) → Runs start_parts tokens those marks → are_optional those ≡ false → RunOut tokens
-run_out tokens those marks runs required = record {
-  so_far = can_go_on tokens those marks runs;
+pub run_out : TreesByForm → (tokens : List Token) (those : List Part) (marks : List ℕ) → Runs start_parts tokens those marks → are_optional those ≡ false → RunOut tokens
+run_out tree tokens those marks runs required = record {
+  so_far = can_go_on tree tokens those marks runs;
   not_whole = λ spelled h.
-      let w = whole_runs tokens spelled h in
+      let w = whole_runs tree tokens spelled h in
       let o = one_run start_parts tokens those w.0 marks _ runs w.1 in
       let never : false ≡ true = sym required ∙ ap (λ ps. are_optional ps) o.0 ∙ w.2 in
       absurd (cc);
 }
 
-pub stops_at : (tokens before : List Token) (token : Token) (after : List Token) (those : List Part) (marks : List ℕ) → tokens ≡ before ++ token ∷ after → Runs start_parts before those marks
+pub stops_at : TreesByForm → (tokens before : List Token) (token : Token) (after : List Token) (those : List Part) (marks : List ℕ) → tokens ≡ before ++ token ∷ after → Runs start_parts before those marks
     → moves those token.kind ≡ None → StopsAt tokens token
-stops_at tokens before token after those marks stands runs none = record {
+stops_at tree tokens before token after those marks stands runs none = record {
   before = before;
   after = after;
   stands = stands;
-  so_far = can_go_on before those marks runs;
+  so_far = can_go_on tree before those marks runs;
   no_further = λ c.
-      let r = runs_of (before ++ token ∷ []) c in
+      let r = runs_of tree (before ++ token ∷ []) c in
       let s = runs_split start_parts before (token ∷ []) r.0 r.1 r.2 in
       let o = one_run start_parts before those s.those marks s.first runs s.runs in
       let k = s.later in
@@ -89,23 +90,23 @@ unfolding stop_from
 stop_token end parts token rest none = ap (λ m. stop_here token.place m (λ thens. stop_from end thens rest)) none
 
 -- a fault is where the reading stops
-module _ (tokens : List Token) where
+module _ (tree : TreesByForm) (tokens : List Token) where
   at_token : (token : Token) → StopsAt tokens token → reading_stop tokens ≡ Some token.place
-  at_token token s = let r = runs_of s.before s.so_far in go r.0 r.1 r.2 (moves r.0 token.kind) refl
+  at_token token s = let r = runs_of tree s.before s.so_far in go r.0 r.1 r.2 (moves r.0 token.kind) refl
     where
       go : (those : List Part) (marks : List ℕ) → Runs start_parts s.before those marks → (m : Option Move) → moves those token.kind ≡ m → reading_stop tokens ≡ Some token.place
       go those marks runs None e =
           ap (λ ts. stop_from (end_of tokens) start_parts ts) s.stands
           ∙ stop_along (end_of tokens) start_parts s.before those marks (token ∷ s.after) runs
           ∙ stop_token (end_of tokens) those token s.after e
-      go those marks runs (Some found) e = absurd (s.no_further (can_go_on (s.before ++ token ∷ []) found.then (marks ++ (mark found.is_node token.place ++ []))
+      go those marks runs (Some found) e = absurd (s.no_further (can_go_on tree (s.before ++ token ∷ []) found.then (marks ++ (mark found.is_node token.place ++ []))
           (runs_append start_parts s.before (token ∷ []) those found.then marks (mark found.is_node token.place ++ []) runs (found, [], e, (refl, refl), refl))))
 
   at_end : RunOut tokens → reading_stop tokens ≡ Some (end_of tokens)
-  at_end w = let r = runs_of tokens w.so_far in go r.0 r.1 r.2 (are_optional r.0) refl
+  at_end w = let r = runs_of tree tokens w.so_far in go r.0 r.1 r.2 (are_optional r.0) refl
     where
       go : (those : List Part) (marks : List ℕ) → Runs start_parts tokens those marks → (b : Bool) → are_optional those ≡ b → reading_stop tokens ≡ Some (end_of tokens)
-      go those marks runs true e = let k = kernel_here tokens those marks runs e in absurd (w.not_whole k.0 k.1)
+      go those marks runs true e = let k = kernel_here tree tokens those marks runs e in absurd (w.not_whole k.0 k.1)
       go those marks runs false e =
           ap (λ ts. stop_from (end_of tokens) start_parts ts) (sym (append-nil tokens))
           ∙ stop_along (end_of tokens) start_parts tokens those marks [] runs ∙ stop_end (end_of tokens) those e
@@ -143,9 +144,9 @@ stopped end parts (token ∷ rest) place e = go (moves parts token.kind) refl (�
     go None is later k = refused [] token rest parts [] refl (refl, refl) is (same_place token.place place k)
     go (Some found) is later k = stopped_later end parts token rest place found is (later found.then k)
 
-stop_is_fault : (tokens : List Token) (place : ℕ) → Stopped (end_of tokens) start_parts tokens place → HasFault tokens (faults.Unexpected place)
-stop_is_fault tokens place (ended those marks runs required is) = inr (is, run_out tokens those marks runs required)
-stop_is_fault tokens place (refused before token after those marks stands runs none is) = inl (token, is, stops_at tokens before token after those marks stands runs none)
+stop_is_fault : TreesByForm → (tokens : List Token) (place : ℕ) → Stopped (end_of tokens) start_parts tokens place → HasFault tokens (faults.Unexpected place)
+stop_is_fault tree tokens place (ended those marks runs required is) = inr (is, run_out tree tokens those marks runs required)
+stop_is_fault tree tokens place (refused before token after those marks stands runs none is) = inl (token, is, stops_at tree tokens before token after those marks stands runs none)
 
-pub unexpected_is_the_stop : UnexpectedIsTheStop
-unexpected_is_the_stop tokens place = (fault_stops tokens place, λ e. stop_is_fault tokens place (stopped (end_of tokens) start_parts tokens place e))
+pub unexpected_is_the_stop : TreesByForm → UnexpectedIsTheStop
+unexpected_is_the_stop tree tokens place = (fault_stops tree tokens place, λ e. stop_is_fault tree tokens place (stopped (end_of tokens) start_parts tokens place e))

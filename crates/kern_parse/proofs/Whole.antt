@@ -13,6 +13,7 @@ use Rattle.kern_tree.specs.FirstFault.{IsKernelOf, HasFirstFault, Parses}
 use Rattle.kern_tree.specs.Grammar.{decl, stmt, stmt_within, SpellsKernel}
 use Rattle.kern_tree.specs.Rules.{Rule, many}
 use Rattle.kern_tree.specs.OneAnswer.{OneAnswer}
+use Rattle.kern_tree.specs.Unrolled.{TreesByForm}
 use Rattle.kern_parse.specs.inner.Found.{ReadsRule}
 use Rattle.kern_parse.specs.inner.Leading.{reads_on, Leads, Fails}
 use Rattle.kern_parse.specs.inner.Reading.{Reading, AreInLimit, first_kind, next_kind, first_place, next_place}
@@ -53,28 +54,28 @@ something_left : (end nodes depth : ℕ) (rest : List Token) (kind : TokenKind) 
 something_left end nodes depth [] kind some = cc
 something_left end nodes depth (token ∷ rest) kind some = reads_refused end [] nodes depth token rest (moves_none token.kind)
 
-pub kernel_read : (tokens : List Token) (decls : List Decl) (body : List Stmt) (mid last : Reading) → ReadsRule (many decl) (Part.Decls ∷ []) (start tokens) decls mid → ReadsStmts mid body last → next_kind last ≡ None
+pub kernel_read : TreesByForm → (tokens : List Token) (decls : List Decl) (body : List Stmt) (mid last : Reading) → ReadsRule (many decl) (Part.Decls ∷ []) (start tokens) decls mid → ReadsStmts mid body last → next_kind last ≡ None
     → IsKernelOf tokens (record { decls = decls; body = body })
-kernel_read tokens decls body mid last declared stated none =
+kernel_read tree tokens decls body mid last declared stated none =
     let rest_is : last.rest ≡ [] = no_rest last.rest none in
     let body_is : many stmt mid.rest body last.rest =
     many_wider (stmt_within (32 - mid.depth)) stmt (λ toks value rest h. (32 - mid.depth, h)) mid.rest body last.rest stated.reads.spelled in
     let spelled : SpellsKernel tokens (record { decls = decls; body = body }) =
     (decls, mid.rest, declared.spelled, (body, last.rest, body_is, (refl, rest_is))) in
     let lead = leads_then (read_leads tokens decls mid declared) stated.reads.leads in
-    whole tokens (record { decls = decls; body = body }) spelled (lead.goes [] ∙ nothing_left last.end last.nodes last.depth last.rest none)
+    whole tree tokens (record { decls = decls; body = body }) spelled (lead.goes [] ∙ nothing_left last.end last.nodes last.depth last.rest none)
 
-pub rest_read : TokensStandInText → TokensAreInOrder → (text : List ℕ) (tokens : List Token) (decls : List Decl) (body : List Stmt) (mid last : Reading) (kind : TokenKind) → Spells text tokens → ReadsRule (many decl) (Part.Decls ∷ []) (start tokens) decls mid → ReadsStmts mid body last
+pub rest_read : TreesByForm → TokensStandInText → TokensAreInOrder → (text : List ℕ) (tokens : List Token) (decls : List Decl) (body : List Stmt) (mid last : Reading) (kind : TokenKind) → Spells text tokens → ReadsRule (many decl) (Part.Decls ∷ []) (start tokens) decls mid → ReadsStmts mid body last
     → next_kind last ≡ Some kind → HasFirstFault tokens (faults.Unexpected (next_place last))
-rest_read stand in_order text tokens decls body mid last kind h declared stated some =
+rest_read tree stand in_order text tokens decls body mid last kind h declared stated some =
     let lead = leads_then (read_leads tokens decls mid declared) stated.reads.leads in
-    fault_in_text stand in_order text tokens (faults.Unexpected (next_place last)) h (lead.goes [] ∙ something_left last.end last.nodes last.depth last.rest kind some)
+    fault_in_text tree stand in_order text tokens (faults.Unexpected (next_place last)) h (lead.goes [] ∙ something_left last.end last.nodes last.depth last.rest kind some)
 
 -- a fault in the parts of a kernel is its first
-pub fault_read : TokensStandInText → TokensAreInOrder → (text : List ℕ) (tokens : List Token) (found : KernFault) → Spells text tokens → Fails (Part.Decls ∷ Part.Stmts ∷ []) (start tokens) found
+pub fault_read : TreesByForm → TokensStandInText → TokensAreInOrder → (text : List ℕ) (tokens : List Token) (found : KernFault) → Spells text tokens → Fails (Part.Decls ∷ Part.Stmts ∷ []) (start tokens) found
     → (found ≡ faults.Memory) ⊎ HasFirstFault tokens found
-fault_read stand in_order text tokens found h (inl memory) = inl memory
-fault_read stand in_order text tokens found h (inr halts) = inr (fault_in_text stand in_order text tokens found h (halts.halts []))
+fault_read tree stand in_order text tokens found h (inl memory) = inl memory
+fault_read tree stand in_order text tokens found h (inr halts) = inr (fault_in_text tree stand in_order text tokens found h (halts.halts []))
 
 -- ---- the one answer
 

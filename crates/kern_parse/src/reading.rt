@@ -8,7 +8,7 @@ ghost use Rattle.kern_tree.specs.declared.kernel.Kernel.{Kernel};
 use crate::reader::Reader;
 use crate::{KernFault, Kernel, Token};
 use kern_token::tokens_stand_in_order;
-use kern_tree::one_answer;
+use kern_tree::{one_answer, trees_by_form};
 use std::alloc::Global;
 
 /// The kernel that the tokens of a text spell. Where they spell none, or one past a limit, the
@@ -22,6 +22,7 @@ pub fn parse(alloc: Global, toks: &[Token]) -> Result<Kernel, KernFault>
         → GivesUnlessMemory (λ kernel. kernel) result parsed }
 {
     tokens_stand_in_order();
+    trees_by_form();
     one_answer();
     let mut reader = Reader::new(alloc, toks);
     let decls = reader.declarations()?;

@@ -5,3 +5,4 @@ pub mod Nodes
 pub mod OneAnswer
 pub mod Parsed
 pub mod Rules
+pub mod Unrolled

@@ -1,5 +1,6 @@
 ghost use Rattle.kern_tree.specs.Limits.{ParsedKernelsKeepLimits};
 ghost use Rattle.kern_tree.specs.OneAnswer.{OneTree, OneAnswer};
+ghost use Rattle.kern_tree.specs.Unrolled.{TreesByForm};
 
 use kern_token::tokens_stand_in_order;
 
@@ -19,3 +20,9 @@ pub fn parsed_kernels_keep_limits()
 {
     tokens_stand_in_order();
 }
+
+/// What stands in brackets is an expression again, what stands in a block is statements, and the
+/// nodes of a tree are its own and those of what it is made of, in text order.
+pub fn trees_by_form()
+    ensures { TreesByForm }
+{}

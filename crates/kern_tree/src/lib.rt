@@ -10,6 +10,6 @@ mod stmt;
 
 pub use expr::{Expr, Form, Op1, Op2, Op3};
 pub use kernel::{Combine, Decl, DeclKind, Kernel, Kind};
-pub use laws::{one_answer, one_tree, parsed_kernels_keep_limits};
+pub use laws::{one_answer, one_tree, parsed_kernels_keep_limits, trees_by_form};
 pub use limits::{MOST_NODES, MOST_OPEN};
 pub use stmt::{Act, Stmt};
