@@ -17,7 +17,7 @@ use Rattle.kern_parse.specs.inner.Leading.{reads_on, fault_of}
 use Rattle.kern_parse.specs.inner.Reading.{Reading}
 use Rattle.kern_parse.specs.ReadingStops.{SomeAnswer}
 use Rattle.kern_parse.specs.Required.{Part, Move, moves, are_optional}
-use Rattle.kern_parse.proofs.FirstTokens.{mark}
+use Rattle.kern_parse.proofs.ExpressionTokens.{mark}
 use Rattle.kern_parse.proofs.GoingOn.{start_parts, Split, runs_append, runs_split, one_run, kernel_runs, can_go_on, whole_runs, get_at, no_node_here}
 use Rattle.kern_parse.proofs.Outcomes.{depth_after, Passed, Outcome, passes, runs_out, refuses, too_deep, too_many, outcome}
 use Rattle.kern_parse.proofs.Runs.{Runs}

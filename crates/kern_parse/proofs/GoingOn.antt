@@ -12,8 +12,8 @@ use Rattle.kern_tree.specs.Rules.{many}
 use Rattle.kern_tree.specs.Unrolled.{TreesByForm}
 use Rattle.kern_parse.specs.Required.{Part, Move, move, moves, are_optional}
 use Rattle.kern_parse.proofs.Fillings.{AllAt, fillings, fillings_at, all_filled}
-use Rattle.kern_parse.proofs.FirstTokens.{mark}
-use Rattle.kern_parse.proofs.MoreCompletions.{stack_completed}
+use Rattle.kern_parse.proofs.ExpressionTokens.{mark}
+use Rattle.kern_parse.proofs.PartCompletions.{stack_completed}
 use Rattle.kern_parse.proofs.PartRules.{decl_nodes, parts_rule}
 use Rattle.kern_parse.proofs.ReadyStacks.{Begins, Ready}
 use Rattle.kern_parse.proofs.Runs.{Runs, RunsTo, runs_to, stack_ends}

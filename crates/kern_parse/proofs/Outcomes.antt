@@ -7,7 +7,7 @@ use Rattle.kern_token.specs.declared.token.Token.{Token}
 use Rattle.kern_tree.specs.FirstFault.{brackets_after}
 use Rattle.kern_parse.specs.inner.Leading.{nodes_after, counted, step, reads_on}
 use Rattle.kern_parse.specs.Required.{Part, Move, moves, are_optional}
-use Rattle.kern_parse.proofs.FirstTokens.{mark}
+use Rattle.kern_parse.proofs.ExpressionTokens.{mark}
 use Rattle.kern_parse.proofs.Runs.{Runs}
 
 -- how many brackets are open after the tokens, where so many were open before them

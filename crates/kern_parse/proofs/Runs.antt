@@ -3,8 +3,8 @@ use Rattle.std.proofs.Common.{◌≡◌, ◌⊎◌, ℕ, List, [], ◌∷◌, �
 use Rattle.kern_token.specs.declared.token.Token.{Token}
 use Rattle.kern_tree.specs.Unrolled.{TreesByForm}
 use Rattle.kern_parse.specs.Required.{Part, Move, move, is_optional, moves, are_optional}
-use Rattle.kern_parse.proofs.FirstTokens.{Goes, mark}
-use Rattle.kern_parse.proofs.MoreTokens.{part_goes}
+use Rattle.kern_parse.proofs.ExpressionTokens.{Goes, mark}
+use Rattle.kern_parse.proofs.PartTokens.{part_goes}
 use Rattle.kern_parse.proofs.PartRules.{parts_rule, parts_append}
 use Rattle.kern_parse.proofs.ReadyStacks.{Ready, ready_after, not_begun}
 use Rattle.kern_parse.proofs.Steps.{moves_first, moves_passed}

@@ -9,7 +9,7 @@ use Rattle.kern_tree.specs.Unrolled.{TreesByForm}
 use Rattle.kern_parse.specs.ReadingStops.{stop_here, stop_from, reading_stop, UnexpectedIsTheStop}
 use Rattle.kern_parse.specs.Required.{Part, Move, is_optional, moves, are_optional}
 use Rattle.kern_parse.proofs.Fillings.{filling, fillings, all_filled}
-use Rattle.kern_parse.proofs.FirstTokens.{mark}
+use Rattle.kern_parse.proofs.ExpressionTokens.{mark}
 use Rattle.kern_parse.proofs.GoingOn.{start_parts, runs_append, runs_split, one_run, runs_back, kernel_of, can_go_on, runs_of, whole_runs}
 use Rattle.kern_parse.proofs.PartRules.{parts_rule}
 use Rattle.kern_parse.proofs.Runs.{Runs}

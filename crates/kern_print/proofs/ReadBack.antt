@@ -12,6 +12,7 @@ use Rattle.kern_tree.specs.FirstFault.{brackets_after}
 use Rattle.kern_tree.specs.Grammar.{stmt, stmt_within}
 use Rattle.kern_tree.specs.Nodes.{kernel_nodes, stmt_nodes}
 use Rattle.kern_tree.specs.Rules.{many}
+use Rattle.kern_tree.specs.Unrolled.{TreesByForm}
 use Rattle.kern_print.specs.Canonical.{canonical_text, decl_text}
 use Rattle.kern_print.specs.ReadingBack.{ReadsAs, CanonicalReadsBack}
 use Rattle.kern_print.specs.Places.{decl_without_places, stmt_without_places}
@@ -40,7 +41,7 @@ some_within : (n : ℕ) (ss : List Stmt) (tokens rest : List Token) → many (st
 some_within n [] tokens rest h = h
 some_within n (s ∷ ss) tokens rest (between, read, others) = (between, (n, read), some_within n ss between rest others)
 
-module _ (stopped : (piece : Piece) (rest : List ℕ) → IsPiece piece → StopsBefore piece rest → Begins (piece.bytes ++ rest) piece rest) where
+module _ (tree : TreesByForm) (stopped : (piece : Piece) (rest : List ℕ) → IsPiece piece → StopsBefore piece rest → Begins (piece.bytes ++ rest) piece rest) where
   held_reads_back : (k : Kernel) → HeldDecls k.decls → HeldBlock 0 k.body → length (kernel_nodes k) ≤ 512 → ReadsAs k (canonical_text k)
   held_reads_back k ds body few =
       let dp : List Piece = decls_pieces ds in
@@ -50,7 +51,7 @@ module _ (stopped : (piece : Piece) (rest : List ℕ) → IsPiece piece → Stop
       ap (λ x. flat_map decl_text k.decls ++ x) (block_bytes body) ∙ behind dp bp (flat_map decl_text k.decls) (decls_bytes ds) in
       let stops : Stops (dp ++ bp) [] = Stops-append dp bp [] (decls_stop ds (bytes_of bp ++ [])) (block_stops body []) in
       let d = decls_read ds 0 (onto q bp []) in
-      let b = block_again body 32 (omega arith) q [] in
+      let b = block_again tree body 32 (omega arith) q [] in
       let again : Kernel = record { decls = d.read; body = b.read } in
       let tokens : List Token = onto 0 dp (onto q bp []) in
       let same_tokens : tokens ≡ tokens_of 0 (dp ++ bp) = sym (onto-append 0 dp bp []) ∙ alone 0 (dp ++ bp) in

@@ -19,6 +19,7 @@ use Rattle.kern_tree.specs.declared.expr.Op3.{Op3}
 use Rattle.pf_geom.specs.declared.axis.Axis.{Axis}
 use Rattle.kern_tree.specs.Grammar.{node, two, part, operator, joined, to_scale, component, call1, call2, call3, post, prim, unary, prod, relation, rel, both, expr_over, expr_within, axis_name}
 use Rattle.kern_tree.specs.Rules.{Rule, At, ◌>>=◌, ◌or◌, pure, many, never, symbol}
+use Rattle.kern_tree.specs.Unrolled.{TreesByForm}
 use Rattle.kern_print.proofs.Alike.{Alike, alike_number, alike_name, alike_part, alike_one, alike_two, alike_three, alike_to}
 use Rattle.kern_print.proofs.Held as held
 use Rattle.kern_print.proofs.Held.{Infix, Bare, Held, Call1, Call2, Call3, level_one}
@@ -175,190 +176,191 @@ pub record Again (inside : Rule Expr) (level : ℕ) (tokens : List Token) (e : E
   pub alike : Alike e read
   pub reads : Reads inside level tokens read rest
 
-literal_reads : (inside : Rule Expr) (p m b place : ℕ) (rest : List Token) → Again inside 7 (onto place (literal_pieces m b) rest) (node p (forms.Number m b)) rest
-literal_reads inside p m zero place rest = record {
+literal_reads : TreesByForm → (inside : Rule Expr) (p m b place : ℕ) (rest : List Token) → Again inside 7 (onto place (literal_pieces m b) rest) (node p (forms.Number m b)) rest
+literal_reads tree inside p m zero place rest = record {
   read = node place (forms.Number m 0);
-  alike = alike_number p place m 0;
+  alike = alike_number tree p place m 0;
   reads = prim_parts inside _ _ rest (inl (inl (inl (record { place = place; held = m }, rest, (_, refl), (0, rest, inr (refl, refl), (refl, refl))))));
 }
-literal_reads inside p m (suc b) place rest = record {
+literal_reads tree inside p m (suc b) place rest = record {
   read = node place (forms.Number m (suc b));
-  alike = alike_number p place m (suc b);
+  alike = alike_number tree p place m (suc b);
   reads = prim_parts inside _ _ rest (inl (inl (inl (record { place = place; held = m }, _, (_, refl), (suc b, rest, inl (record { place = _; held = suc b }, rest, (_, refl), (refl, refl)), (refl, refl))))));
 }
 
-mutual
-  pub bare_reads : {depth level : ℕ} {e : Expr} (h : Bare depth level e) (k : ℕ) → 32 ≤ depth + k → (place : ℕ) (rest : List Token) → Again (below k) level (onto place (bare_pieces h) rest) e rest
-  bare_reads (held.literal {place = p} {mantissa = m} {bits = b} small limit) k deep place rest = literal_reads (below k) p m b place rest
-  bare_reads (held.variable {place = p} {called = n} name) k deep place rest = record {
-    read = node place (forms.Name n);
-    alike = alike_name p place n;
-    reads = prim_parts (below k) _ _ rest (inl (inl (inr (record { place = place; held = n }, rest, (_, refl), (refl, refl)))));
-  }
-  bare_reads (held.part {place = p} {axis = axis} h) k deep place rest =
-      let pa : List Piece = held_pieces h in
-      let r : ℕ = place_after place pa in
-      let tail : List Piece = sym_of symbols.Dot ∷ name_of (axis_name axis) ∷ [] in
-      let a = held_reads h k deep place (onto r tail rest) in
-      record {
-        read = node r (forms.Part a.read axis);
-        alike = alike_part p r axis a.alike;
-        reads = λ parts end more. subst (λ (ts : List Token). post (below k) ts (fold part (node r (forms.Part a.read axis)) parts) end) (sym (onto-append place pa tail rest))
-            (a.reads (record { place = r; held = axis } ∷ parts) end (rest, (r, _, (_, refl), (axis, rest, (_, (_, refl)), (refl, refl))), more));
-      }
-  bare_reads (held.sign {place = p} held.neg h) k deep place rest =
-      let a = held_reads h k deep (place + 1) rest in
-      record {
-        read = node place (forms.One ops1.Neg a.read);
-        alike = alike_one p place ops1.Neg a.alike;
-        reads = inr (record { place = place; held = ops1.Neg }, _, inl (place, _, (_, refl), (refl, refl)), (a.read, rest, a.reads [] rest refl, (refl, refl)));
-      }
-  bare_reads (held.sign {place = p} held.not h) k deep place rest =
-      let a = held_reads h k deep (place + 1) rest in
-      record {
-        read = node place (forms.One ops1.Not a.read);
-        alike = alike_one p place ops1.Not a.alike;
-        reads = inr (record { place = place; held = ops1.Not }, _, inr (place, _, (_, refl), (refl, refl)), (a.read, rest, a.reads [] rest refl, (refl, refl)));
-      }
-  bare_reads (held.two {place = p} {level = level} {left = left} {s = s} {op = op} known h g) k deep place rest =
-      let pa : List Piece = held_pieces h in
-      let pb : List Piece = held_pieces g in
-      let r : ℕ = place_after place pa in
-      let q : ℕ = r + 1 + length (sym_of s).bytes in
-      let tail : List Piece = gap ∷ sym_of s ∷ gap ∷ pb in
-      let a = held_reads h k deep place (onto r tail rest) in
-      let b = held_reads g k deep (q + 1) rest in
-      record {
-        read = node (r + 1) (forms.Two op a.read b.read);
-        alike = alike_two p (r + 1) op a.alike b.alike;
-        reads = infix_reads (below k) known (onto place (pa ++ tail) rest) a.read (r + 1) q (onto (q + 1) pb rest) b.read rest
-            (subst (λ (ts : List Token). Reads (below k) left ts a.read (onto r tail rest)) (sym (onto-append place pa tail rest)) a.reads) b.reads;
-      }
-  bare_reads (held.call1 {place = p} {w = w} {op = op} known d h) zero deep place rest = absurd (omega arith)
-  bare_reads (held.call1 {place = p} {w = w} {op = op} known d h) (suc k) deep place rest =
-      let pa : List Piece = held_pieces h in
-      let q : ℕ = place + length (word_of w).bytes in
-      let a = held_reads h k (omega arith) (q + 1) (onto (place_after (q + 1) pa) closed rest) in
-      record {
-        read = node place (forms.One op a.read);
-        alike = alike_one p place op a.alike;
-        reads = prim_parts (below (suc k)) _ _ rest (call1_prim (below (suc k)) known _ _ rest
-            (place, _, (_, refl), (q, _, opened q pa closed rest, (a.read, _, within_of k _ _ _ (a.reads [] _ refl), (_, rest, (_, refl), (refl, refl))))));
-      }
-  bare_reads (held.call2 {place = p} {w = w} {op = op} known d h g) zero deep place rest = absurd (omega arith)
-  bare_reads (held.call2 {place = p} {w = w} {op = op} known d h g) (suc k) deep place rest =
-      let pa : List Piece = held_pieces h in
-      let pb : List Piece = held_pieces g in
-      let q : ℕ = place + length (word_of w).bytes in
-      let r : ℕ = place_after (q + 1) pa in
-      let tail : List Piece = sym_of symbols.Comma ∷ gap ∷ (pb ++ closed) in
-      let a = held_reads h k (omega arith) (q + 1) (onto r tail rest) in
-      let b = held_reads g k (omega arith) (r + 1 + 1) (onto (place_after (r + 1 + 1) pb) closed rest) in
-      record {
-        read = node place (forms.Two op a.read b.read);
-        alike = alike_two p place op a.alike b.alike;
-        reads = prim_parts (below (suc k)) _ _ rest (call2_prim (below (suc k)) known _ _ rest (
-          place,
-          _,
-          (_, refl),
-          (
-            q,
-            _,
-            opened q pa tail rest,
-            (
-              a.read,
-              _,
-              within_of k _ _ _ (a.reads [] _ refl),
-              (r, _, commaed r pb closed rest, (b.read, _, within_of k _ _ _ (b.reads [] _ refl), (_, rest, (_, refl), (refl, refl)))),
-            ),
-          ),
-        ));
-      }
-  bare_reads (held.call3 {place = p} {w = w} {op = op} known d h g f) zero deep place rest = absurd (omega arith)
-  bare_reads (held.call3 {place = p} {w = w} {op = op} known d h g f) (suc k) deep place rest =
-      let pa : List Piece = held_pieces h in
-      let pb : List Piece = held_pieces g in
-      let pc : List Piece = held_pieces f in
-      let q : ℕ = place + length (word_of w).bytes in
-      let r : ℕ = place_after (q + 1) pa in
-      let t : ℕ = place_after (r + 1 + 1) pb in
-      let last : List Piece = sym_of symbols.Comma ∷ gap ∷ (pc ++ closed) in
-      let tail : List Piece = sym_of symbols.Comma ∷ gap ∷ (pb ++ last) in
-      let a = held_reads h k (omega arith) (q + 1) (onto r tail rest) in
-      let b = held_reads g k (omega arith) (r + 1 + 1) (onto t last rest) in
-      let c = held_reads f k (omega arith) (t + 1 + 1) (onto (place_after (t + 1 + 1) pc) closed rest) in
-      record {
-        read = node place (forms.Three op a.read b.read c.read);
-        alike = alike_three p place op a.alike b.alike c.alike;
-        reads = prim_parts (below (suc k)) _ _ rest (call3_prim (below (suc k)) known _ _ rest (
-          place,
-          _,
-          (_, refl),
-          (
-            q,
-            _,
-            opened q pa tail rest,
-            (
-              a.read,
-              _,
-              within_of k _ _ _ (a.reads [] _ refl),
-              (
-                r,
-                _,
-                commaed r pb last rest,
-                (
-                  b.read,
-                  _,
-                  within_of k _ _ _ (b.reads [] _ refl),
-                  (t, _, commaed t pc closed rest, (c.read, _, within_of k _ _ _ (c.reads [] _ refl), (_, rest, (_, refl), (refl, refl)))),
-                ),
-              ),
-            ),
-          ),
-        ));
-      }
-  bare_reads (held.to {place = p} {bits = bits} fits d h) zero deep place rest = absurd (omega arith)
-  bare_reads (held.to {place = p} {bits = bits} fits d h) (suc k) deep place rest =
-      let pa : List Piece = held_pieces h in
-      let q : ℕ = place + 2 + 1 in
-      let r : ℕ = q + length (number_of bits).bytes in
-      let a = held_reads h k (omega arith) (r + 1 + 1) (onto (place_after (r + 1 + 1) pa) closed rest) in
-      record {
-        read = node place (forms.To bits a.read);
-        alike = alike_to p place bits a.alike;
-        reads = prim_parts (below (suc k)) _ _ rest (inr (inl (inl (inl (inl (inr (
-          place,
-          _,
-          (_, refl),
-          (
-            place + 2,
+module _ (tree : TreesByForm) where
+  mutual
+    pub bare_reads : {depth level : ℕ} {e : Expr} (h : Bare depth level e) (k : ℕ) → 32 ≤ depth + k → (place : ℕ) (rest : List Token) → Again (below k) level (onto place (bare_pieces h) rest) e rest
+    bare_reads (held.literal {place = p} {mantissa = m} {bits = b} small limit) k deep place rest = literal_reads tree (below k) p m b place rest
+    bare_reads (held.variable {place = p} {called = n} name) k deep place rest = record {
+      read = node place (forms.Name n);
+      alike = alike_name tree p place n;
+      reads = prim_parts (below k) _ _ rest (inl (inl (inr (record { place = place; held = n }, rest, (_, refl), (refl, refl)))));
+    }
+    bare_reads (held.part {place = p} {axis = axis} h) k deep place rest =
+        let pa : List Piece = held_pieces h in
+        let r : ℕ = place_after place pa in
+        let tail : List Piece = sym_of symbols.Dot ∷ name_of (axis_name axis) ∷ [] in
+        let a = held_reads h k deep place (onto r tail rest) in
+        record {
+          read = node r (forms.Part a.read axis);
+          alike = alike_part tree p r axis a.alike;
+          reads = λ parts end more. subst (λ (ts : List Token). post (below k) ts (fold part (node r (forms.Part a.read axis)) parts) end) (sym (onto-append place pa tail rest))
+              (a.reads (record { place = r; held = axis } ∷ parts) end (rest, (r, _, (_, refl), (axis, rest, (_, (_, refl)), (refl, refl))), more));
+        }
+    bare_reads (held.sign {place = p} held.neg h) k deep place rest =
+        let a = held_reads h k deep (place + 1) rest in
+        record {
+          read = node place (forms.One ops1.Neg a.read);
+          alike = alike_one tree p place ops1.Neg a.alike;
+          reads = inr (record { place = place; held = ops1.Neg }, _, inl (place, _, (_, refl), (refl, refl)), (a.read, rest, a.reads [] rest refl, (refl, refl)));
+        }
+    bare_reads (held.sign {place = p} held.not h) k deep place rest =
+        let a = held_reads h k deep (place + 1) rest in
+        record {
+          read = node place (forms.One ops1.Not a.read);
+          alike = alike_one tree p place ops1.Not a.alike;
+          reads = inr (record { place = place; held = ops1.Not }, _, inr (place, _, (_, refl), (refl, refl)), (a.read, rest, a.reads [] rest refl, (refl, refl)));
+        }
+    bare_reads (held.two {place = p} {level = level} {left = left} {s = s} {op = op} known h g) k deep place rest =
+        let pa : List Piece = held_pieces h in
+        let pb : List Piece = held_pieces g in
+        let r : ℕ = place_after place pa in
+        let q : ℕ = r + 1 + length (sym_of s).bytes in
+        let tail : List Piece = gap ∷ sym_of s ∷ gap ∷ pb in
+        let a = held_reads h k deep place (onto r tail rest) in
+        let b = held_reads g k deep (q + 1) rest in
+        record {
+          read = node (r + 1) (forms.Two op a.read b.read);
+          alike = alike_two tree p (r + 1) op a.alike b.alike;
+          reads = infix_reads (below k) known (onto place (pa ++ tail) rest) a.read (r + 1) q (onto (q + 1) pb rest) b.read rest
+              (subst (λ (ts : List Token). Reads (below k) left ts a.read (onto r tail rest)) (sym (onto-append place pa tail rest)) a.reads) b.reads;
+        }
+    bare_reads (held.call1 {place = p} {w = w} {op = op} known d h) zero deep place rest = absurd (omega arith)
+    bare_reads (held.call1 {place = p} {w = w} {op = op} known d h) (suc k) deep place rest =
+        let pa : List Piece = held_pieces h in
+        let q : ℕ = place + length (word_of w).bytes in
+        let a = held_reads h k (omega arith) (q + 1) (onto (place_after (q + 1) pa) closed rest) in
+        record {
+          read = node place (forms.One op a.read);
+          alike = alike_one tree p place op a.alike;
+          reads = prim_parts (below (suc k)) _ _ rest (call1_prim (below (suc k)) known _ _ rest
+              (place, _, (_, refl), (q, _, opened q pa closed rest, (a.read, _, within_of k _ _ _ (a.reads [] _ refl), (_, rest, (_, refl), (refl, refl))))));
+        }
+    bare_reads (held.call2 {place = p} {w = w} {op = op} known d h g) zero deep place rest = absurd (omega arith)
+    bare_reads (held.call2 {place = p} {w = w} {op = op} known d h g) (suc k) deep place rest =
+        let pa : List Piece = held_pieces h in
+        let pb : List Piece = held_pieces g in
+        let q : ℕ = place + length (word_of w).bytes in
+        let r : ℕ = place_after (q + 1) pa in
+        let tail : List Piece = sym_of symbols.Comma ∷ gap ∷ (pb ++ closed) in
+        let a = held_reads h k (omega arith) (q + 1) (onto r tail rest) in
+        let b = held_reads g k (omega arith) (r + 1 + 1) (onto (place_after (r + 1 + 1) pb) closed rest) in
+        record {
+          read = node place (forms.Two op a.read b.read);
+          alike = alike_two tree p place op a.alike b.alike;
+          reads = prim_parts (below (suc k)) _ _ rest (call2_prim (below (suc k)) known _ _ rest (
+            place,
             _,
             (_, refl),
             (
-              record { place = q; held = bits },
+              q,
+              _,
+              opened q pa tail rest,
+              (
+                a.read,
+                _,
+                within_of k _ _ _ (a.reads [] _ refl),
+                (r, _, commaed r pb closed rest, (b.read, _, within_of k _ _ _ (b.reads [] _ refl), (_, rest, (_, refl), (refl, refl)))),
+              ),
+            ),
+          ));
+        }
+    bare_reads (held.call3 {place = p} {w = w} {op = op} known d h g f) zero deep place rest = absurd (omega arith)
+    bare_reads (held.call3 {place = p} {w = w} {op = op} known d h g f) (suc k) deep place rest =
+        let pa : List Piece = held_pieces h in
+        let pb : List Piece = held_pieces g in
+        let pc : List Piece = held_pieces f in
+        let q : ℕ = place + length (word_of w).bytes in
+        let r : ℕ = place_after (q + 1) pa in
+        let t : ℕ = place_after (r + 1 + 1) pb in
+        let last : List Piece = sym_of symbols.Comma ∷ gap ∷ (pc ++ closed) in
+        let tail : List Piece = sym_of symbols.Comma ∷ gap ∷ (pb ++ last) in
+        let a = held_reads h k (omega arith) (q + 1) (onto r tail rest) in
+        let b = held_reads g k (omega arith) (r + 1 + 1) (onto t last rest) in
+        let c = held_reads f k (omega arith) (t + 1 + 1) (onto (place_after (t + 1 + 1) pc) closed rest) in
+        record {
+          read = node place (forms.Three op a.read b.read c.read);
+          alike = alike_three tree p place op a.alike b.alike c.alike;
+          reads = prim_parts (below (suc k)) _ _ rest (call3_prim (below (suc k)) known _ _ rest (
+            place,
+            _,
+            (_, refl),
+            (
+              q,
+              _,
+              opened q pa tail rest,
+              (
+                a.read,
+                _,
+                within_of k _ _ _ (a.reads [] _ refl),
+                (
+                  r,
+                  _,
+                  commaed r pb last rest,
+                  (
+                    b.read,
+                    _,
+                    within_of k _ _ _ (b.reads [] _ refl),
+                    (t, _, commaed t pc closed rest, (c.read, _, within_of k _ _ _ (c.reads [] _ refl), (_, rest, (_, refl), (refl, refl)))),
+                  ),
+                ),
+              ),
+            ),
+          ));
+        }
+    bare_reads (held.to {place = p} {bits = bits} fits d h) zero deep place rest = absurd (omega arith)
+    bare_reads (held.to {place = p} {bits = bits} fits d h) (suc k) deep place rest =
+        let pa : List Piece = held_pieces h in
+        let q : ℕ = place + 2 + 1 in
+        let r : ℕ = q + length (number_of bits).bytes in
+        let a = held_reads h k (omega arith) (r + 1 + 1) (onto (place_after (r + 1 + 1) pa) closed rest) in
+        record {
+          read = node place (forms.To bits a.read);
+          alike = alike_to tree p place bits a.alike;
+          reads = prim_parts (below (suc k)) _ _ rest (inr (inl (inl (inl (inl (inr (
+            place,
+            _,
+            (_, refl),
+            (
+              place + 2,
               _,
               (_, refl),
-              (r, _, commaed r pa closed rest, (a.read, _, within_of k _ _ _ (a.reads [] _ refl), (_, rest, (_, refl), (ap (λ n. node place (forms.To n a.read)) (sym (to_scale_same bits fits)), refl)))),
+              (
+                record { place = q; held = bits },
+                _,
+                (_, refl),
+                (r, _, commaed r pa closed rest, (a.read, _, within_of k _ _ _ (a.reads [] _ refl), (_, rest, (_, refl), (ap (λ n. node place (forms.To n a.read)) (sym (to_scale_same bits fits)), refl)))),
+              ),
             ),
-          ),
-        )))))));
-      }
+          )))))));
+        }
 
-  pub held_reads : {depth needed : ℕ} {e : Expr} (h : Held depth needed e) (k : ℕ) → 32 ≤ depth + k → (place : ℕ) (rest : List Token) → Again (below k) needed (onto place (held_pieces h) rest) e rest
-  held_reads {needed = needed} (held.bare {level = level} n b) k deep place rest =
-      let a = bare_reads b k deep place rest in
-      record {
-        read = a.read;
-        alike = a.alike;
-        reads = lower_to (below k) needed level n _ a.read rest a.reads;
-      }
-  held_reads (held.bracket n d b) zero deep place rest = absurd (omega arith)
-  held_reads {needed = needed} (held.bracket {level = level} n d b) (suc k) deep place rest =
-      let pb : List Piece = bare_pieces b in
-      let a = bare_reads b k (omega arith) (place + 1) (onto (place_after (place + 1) pb) closed rest) in
-      record {
-        read = a.read;
-        alike = a.alike;
-        reads = from_prim (below (suc k)) needed _ a.read rest (prim_parts (below (suc k)) _ a.read rest (inl (inr
-            (place, _, opened place pb closed rest, (a.read, _, within_of k _ _ _ (lower_to (below k) 1 level (level_one b) _ a.read _ a.reads [] _ refl), (_, rest, (_, refl), (refl, refl)))))));
-      }
+    pub held_reads : {depth needed : ℕ} {e : Expr} (h : Held depth needed e) (k : ℕ) → 32 ≤ depth + k → (place : ℕ) (rest : List Token) → Again (below k) needed (onto place (held_pieces h) rest) e rest
+    held_reads {needed = needed} (held.bare {level = level} n b) k deep place rest =
+        let a = bare_reads b k deep place rest in
+        record {
+          read = a.read;
+          alike = a.alike;
+          reads = lower_to (below k) needed level n _ a.read rest a.reads;
+        }
+    held_reads (held.bracket n d b) zero deep place rest = absurd (omega arith)
+    held_reads {needed = needed} (held.bracket {level = level} n d b) (suc k) deep place rest =
+        let pb : List Piece = bare_pieces b in
+        let a = bare_reads b k (omega arith) (place + 1) (onto (place_after (place + 1) pb) closed rest) in
+        record {
+          read = a.read;
+          alike = a.alike;
+          reads = from_prim (below (suc k)) needed _ a.read rest (prim_parts (below (suc k)) _ a.read rest (inl (inr
+              (place, _, opened place pb closed rest, (a.read, _, within_of k _ _ _ (lower_to (below k) 1 level (level_one b) _ a.read _ a.reads [] _ refl), (_, rest, (_, refl), (refl, refl)))))));
+        }

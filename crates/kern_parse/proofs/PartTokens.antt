@@ -28,7 +28,7 @@ use Rattle.kern_parse.specs.declared.operators.Level.{Level}
 use Rattle.kern_parse.specs.declared.operators.Level.TheVariants as levels
 use Rattle.kern_parse.specs.Required.{Part, move, same_symbol, operand as operand_part, is_optional}
 use Rattle.kern_parse.proofs.PartRules.{decl_nodes, more_nodes, component_nodes, operators, operand_rule, more_rule, more_rel, scale_if_any, else_block, part_rule, parts_rule}
-use Rattle.kern_parse.proofs.FirstTokens.{Goes, ends, with_places, one_more, symbol_then, expr_then, prim_goes, post_goes, unary_goes, product_goes, sum_goes, rel_goes, both_goes, over_goes}
+use Rattle.kern_parse.proofs.ExpressionTokens.{Goes, ends, with_places, one_more, symbol_then, expr_then, prim_goes, post_goes, unary_goes, product_goes, sum_goes, rel_goes, both_goes, over_goes}
 
 -- either the part goes, or nothing is read for it
 abbrev pub GoesIfAny : Part → List Token → List ℕ → List Token → Type 0

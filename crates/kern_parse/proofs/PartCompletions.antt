@@ -28,7 +28,7 @@ use Rattle.kern_tree.specs.Unrolled.{TreesByForm}
 use Rattle.kern_parse.specs.declared.operators.Level.{Level}
 use Rattle.kern_parse.specs.declared.operators.Level.TheVariants as levels
 use Rattle.kern_parse.specs.Required.{Part, Move, move, same_symbol, exactly_move, axis_at, axis_move, operand as operand_part, is_optional, moves, chosen}
-use Rattle.kern_parse.proofs.Completions.{at, CompletesBy, Completes, operand_of, completes_prim, completes_post, completes_unary, completes_product, completes_sum, completes_rel, completes_both, completes_over}
+use Rattle.kern_parse.proofs.ExpressionCompletions.{at, CompletesBy, Completes, operand_of, completes_prim, completes_post, completes_unary, completes_product, completes_sum, completes_rel, completes_both, completes_over}
 use Rattle.kern_parse.proofs.PartRules.{more_nodes, component_nodes, decl_nodes, operators, more_rule, part_rule, parts_rule, parts_split, part_left_out}
 
 -- ---- symbols and axes that a test tells

@@ -22,7 +22,7 @@ use Rattle.kern_tree.specs.Unrolled.{TreesByForm}
 use Rattle.kern_parse.specs.declared.operators.Level.{Level}
 use Rattle.kern_parse.specs.declared.operators.Level.TheVariants as levels
 use Rattle.kern_parse.specs.Required.{Part, Move, move, and_then, operand as operand_part}
-use Rattle.kern_parse.proofs.FirstTokens.{prefix_rule}
+use Rattle.kern_parse.proofs.ExpressionTokens.{prefix_rule}
 use Rattle.kern_parse.proofs.PartRules.{three_arguments, two_arguments, last_argument, operand_rule, more_rel, rel_rest, part_rule, parts_rule, parts_split}
 
 abbrev pub at : TokenKind → ℕ → ℕ → Token
