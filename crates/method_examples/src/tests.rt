@@ -1,4 +1,5 @@
 mod bodies;
+mod fields;
 mod geometry;
 mod lists;
 mod model;
