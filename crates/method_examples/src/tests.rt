@@ -5,5 +5,6 @@ mod lists;
 mod model;
 mod numbers;
 mod opening;
+mod terms;
 mod totals;
 mod trees;

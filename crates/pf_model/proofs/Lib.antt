@@ -23,3 +23,4 @@ mod MergeLemmas
 mod ListMergeLemmas
 mod SufficiencyLemmas
 mod IdLemmas
+mod EveryLemmas

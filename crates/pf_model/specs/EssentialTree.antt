@@ -19,6 +19,12 @@ unfoldable pub essential_tree : Criterion → Division → List Particle → ℕ
 essential_tree t g js src dst =
     tree_for (particles_of g js dst) (list_of t (domain_box g js dst) (particles_of g js src))
 
+-- an essential tree as clauses see it
+pub record Essential : Type 0 where
+  pub src : ℕ
+  pub dst : ℕ
+  pub items : List Entry
+
 -- the particles of some ranks
 abbrev pub particles_of_ranks : Division → List Particle → List ℕ → List Particle
 particles_of_ranks g js ranks = filter (λ j. list_any (nat_eq (owner g js j.at)) ranks) js

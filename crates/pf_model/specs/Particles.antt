@@ -1,6 +1,7 @@
 -- Lists of particles.
 use Rattle.std.specs.Prelude.{◌≤◌, List, length, map, nat_eq, nat_lt}
-use Rattle.std.specs.List.{IsDistinct}
+use Rattle.std.specs.List.{IsDistinct, IsDistinct-prop}
+use Rattle.std.proofs.Props.{props}
 use Rattle.pf_model.specs.declared.limits.TheConstants.{MOST_PARTICLES}
 use Rattle.pf_model.specs.Particle.{Particle}
 use Rattle.pf_model.specs.Order.{in_order_once}
@@ -13,6 +14,10 @@ HaveDistinctIds js = IsDistinct nat_eq (map (λ j. j.id) js)
 pub record AreBodies (js : List Particle) : Type 0 where
   pub few : length js ≤ MOST_PARTICLES
   pub distinct : HaveDistinctIds js
+
+-- this holds in one way
+pub AreBodies-prop : (js : List Particle) → IsProp (AreBodies js)
+AreBodies-prop js = hlevel (props, IsDistinct-prop nat_eq (map (λ j. j.id) js))
 
 -- the particles in the order of their ids
 abbrev pub by_id : List Particle → List Particle

@@ -24,6 +24,7 @@ mod plain_list;
 mod reuse_laws;
 mod steps;
 mod sufficiency_laws;
+mod terms;
 mod theta;
 
 pub use body::Body;
@@ -34,7 +35,7 @@ pub use domain_laws::{
     ranks_have_their_own,
 };
 pub use entry::Entry;
-pub use ess_tree::{EssTree, Terms};
+pub use ess_tree::EssTree;
 pub use field::Field;
 pub use grid::Grid;
 pub use group_laws::{
@@ -70,4 +71,5 @@ pub use steps::Steps;
 pub use sufficiency_laws::{
     boxes_lie_in_domains, entries_add_up_their_items, items_lie_in_one_entry,
 };
+pub use terms::{Build, Terms};
 pub use theta::Theta;
