@@ -1,1 +1,11 @@
+pub mod Counts
+pub mod DeclTyping
+pub mod ExprTyping
+pub mod Fits
+pub mod Layers
 pub mod Literals
+pub mod Meanings
+pub mod NamePlaces
+pub mod Runs
+pub mod StmtTyping
+pub mod TypedPairs

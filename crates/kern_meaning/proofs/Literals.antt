@@ -1,9 +1,8 @@
 -- The value of a literal, by whether it is an i64.
-use Rattle.std.proofs.Common.{◌≡◌, ℕ, ◌<◌, ◌≤◌, ◌^◌, true, false, ℤ, pos, Ok, Err, ap, ◌∙◌, arith}
+use Rattle.std.proofs.Common.{◌≡◌, ℕ, ◌<◌, ◌≤◌, ◌^◌, true, false, pos, Ok, Err, ap, arith}
 use Rattle.std.proofs.lemmas.Bool.Decides.{nat_tests}
 use Rattle.std.proofs.lemmas.Bool.{cond-true, cond-false}
 use Rattle.pf_num.specs.Exact.{exact, is_i64}
-use Rattle.pf_num.specs.declared.fault.NumFault.{NumFault}
 use Rattle.pf_num.specs.declared.fault.NumFault.TheVariants.{Overflow}
 use Rattle.kern_meaning.specs.declared.stop.Stop.TheVariants.{Fault}
 use Rattle.kern_meaning.specs.declared.value.Value.TheVariants.{Num}

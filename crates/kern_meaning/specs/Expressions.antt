@@ -1,4 +1,6 @@
 -- The value of an expression, with the names that have a value so far, or its first fault.
+use Rattle.std.specs.Prelude.{Bool, Option}
+use Rattle.kern_types.specs.declared.expr_type.ExprType.{ExprType}
 use Rattle.kern_tree.specs.declared.expr.Expr.{Expr}
 use Rattle.kern_tree.specs.declared.expr.Form.{Form}
 use Rattle.kern_tree.specs.declared.expr.Form.TheFolds.{fold-Form}
@@ -6,7 +8,7 @@ use Rattle.kern_tree.specs.declared.expr.Form.TheOpen.{Form-F, Expr-F}
 use Rattle.kern_tree.specs.declared.expr.Form.TheOpen as forms
 use Rattle.kern_meaning.specs.declared.value.Value.{Value}
 use Rattle.kern_meaning.specs.Names.{Known, name_value}
-use Rattle.kern_meaning.specs.Operators.{literal_value, part_value, one_value, two_form, three_value, to_value}
+use Rattle.kern_meaning.specs.Operators.{literal_value, number, truth, taken_by, part_value, one_value, two_form, three_value, to_value}
 use Rattle.kern_meaning.specs.Stops.{OrStop, ◌>>=◌}
 
 abbrev pub value_of_form : Expr-F (OrStop Value) (OrStop Value) → OrStop Value
@@ -38,3 +40,15 @@ module _ (known : Known) where
 
   abbrev pub value_of : Expr → OrStop Value
   value_of expr = form_value expr.form
+
+  -- of a num or a vec
+  abbrev pub number_value_of : Expr → OrStop Value
+  number_value_of expr = value_of expr >>= number
+
+  -- of a condition
+  abbrev pub truth_of : Expr → OrStop Bool
+  truth_of expr = value_of expr >>= truth
+
+  -- of what a FORCE variable of this type takes
+  abbrev pub contribution_of : Option ExprType → Expr → OrStop Value
+  contribution_of force expr = value_of expr >>= taken_by force

@@ -2,5 +2,9 @@ pub mod Expressions
 pub mod Names
 pub mod Operators
 pub mod Pair
+pub mod Prepared
 pub mod Stops
+pub mod Typing
 pub mod Values
+pub mod Variables
+pub mod Walks

@@ -1,7 +1,7 @@
 -- The values of the forms of expressions, by the values of their operands. The exact value of a node is
 -- tested for the range of 64 bits once, that of a vec component by component. Operands of other kinds
 -- or scales have no result.
-use Rattle.std.specs.Prelude.{ℕ, ◌+◌, ◌-◌, ◌/◌, ◌%◌, ℤ, pos, ◌+ℤ◌, ◌-ℤ◌, ◌*ℤ◌, neg_ℤ, unsigned_abs, int_le, int_lt, Bool, true, false, not, ◌&&◌, ◌==◌, nat_le, if◌then◌else◌, List, [], ◌∷◌, Result, Ok, Err}
+use Rattle.std.specs.Prelude.{ℕ, ◌+◌, ◌-◌, ◌/◌, ◌%◌, ℤ, pos, ◌+ℤ◌, ◌-ℤ◌, ◌*ℤ◌, neg_ℤ, unsigned_abs, int_le, int_lt, Bool, true, false, not, ◌&&◌, ◌==◌, nat_le, if◌then◌else◌, List, [], ◌∷◌, Option, Some, Result, Ok}
 use Rattle.std.specs.Ordering.{int_eq}
 use Rattle.pf_geom.specs.declared.axis.Axis.{Axis}
 use Rattle.pf_geom.specs.declared.axis.Axis.TheVariants as axes
@@ -17,6 +17,9 @@ use Rattle.kern_tree.specs.declared.expr.Op2.{Op2}
 use Rattle.kern_tree.specs.declared.expr.Op2.TheVariants as op2s
 use Rattle.kern_tree.specs.declared.expr.Op3.{Op3}
 use Rattle.kern_tree.specs.declared.expr.Op3.TheVariants as op3s
+use Rattle.kern_tree.specs.declared.kernel.Kind.TheVariants as kinds
+use Rattle.kern_types.specs.declared.expr_type.ExprType.{ExprType}
+use Rattle.kern_types.specs.declared.expr_type.ExprType.TheVariants.{Scaled}
 use Rattle.kern_meaning.specs.declared.value.Value.{Value}
 use Rattle.kern_meaning.specs.declared.value.Value.TheVariants.{Num, Vec3, Condition}
 use Rattle.kern_meaning.specs.Stops.{OrStop, ◌>>=◌, no_result, only_if, counted}
@@ -174,6 +177,12 @@ truth _ = no_result
 abbrev pub number : Value → OrStop Value
 number (Condition holds) = no_result
 number value = Ok value
+
+-- a FORCE variable of this type takes the value
+abbrev pub taken_by : Option ExprType → Value → OrStop Value
+taken_by (Some (Scaled kinds.Num scale)) (Num a s) = only_if (scale == s) (Ok (Num a s))
+taken_by (Some (Scaled kinds.Vec3 scale)) (Vec3 a s) = only_if (scale == s) (Ok (Vec3 a s))
+taken_by _ _ = no_result
 
 -- a && b: the right operand counts only where the left is true
 abbrev pub and_value : OrStop Value → OrStop Value → OrStop Value

@@ -12,14 +12,13 @@ use Rattle.kern_tree.specs.declared.kernel.Decl.{Decl}
 use Rattle.kern_tree.specs.declared.kernel.DeclKind.{DeclKind}
 use Rattle.kern_tree.specs.declared.kernel.DeclKind.TheVariants as declared_as
 use Rattle.kern_tree.specs.declared.kernel.Kernel.{Kernel}
-use Rattle.kern_tree.specs.declared.kernel.Kind.TheVariants as num_or_vec
 use Rattle.kern_tree.specs.declared.stmt.Act.{Act}
 use Rattle.kern_tree.specs.declared.stmt.Act.TheFolds.{fold-Act}
 use Rattle.kern_tree.specs.declared.stmt.Act.TheOpen.{Act-F, Stmt-F}
 use Rattle.kern_tree.specs.declared.stmt.Act.TheOpen as acts
 use Rattle.kern_tree.specs.declared.stmt.Stmt.{Stmt}
 use Rattle.kern_types.specs.declared.expr_type.ExprType.{ExprType}
-use Rattle.kern_types.specs.declared.expr_type.ExprType.TheVariants.{Scaled, Condition}
+use Rattle.kern_types.specs.declared.expr_type.ExprType.TheVariants.{Scaled}
 use Rattle.kern_types.specs.Names.{declaration}
 use Rattle.kern_meaning.specs.declared.fault.PairFault.{PairFault}
 use Rattle.kern_meaning.specs.declared.fault.PairKind.{PairKind}
@@ -29,11 +28,9 @@ use Rattle.kern_meaning.specs.declared.stop.PairStop.TheVariants as pair_stops
 use Rattle.kern_meaning.specs.declared.stop.Stop.{Stop}
 use Rattle.kern_meaning.specs.declared.stop.Stop.TheVariants as stops
 use Rattle.kern_meaning.specs.declared.value.Value.{Value}
-use Rattle.kern_meaning.specs.declared.value.Value.TheVariants as values
-use Rattle.kern_meaning.specs.Expressions.{value_of}
+use Rattle.kern_meaning.specs.Expressions.{number_value_of, truth_of, contribution_of}
 use Rattle.kern_meaning.specs.Names.{Known, at_start, with_assigned}
-use Rattle.kern_meaning.specs.Operators.{truth, number}
-use Rattle.kern_meaning.specs.Stops.{OrStop, ◌>>=◌, no_result, only_if}
+use Rattle.kern_meaning.specs.Stops.{OrStop, ◌>>=◌}
 
 -- a value, or what stopped a pair on the way to it
 abbrev pub OrPairStop : Type 0 → Type 0
@@ -92,12 +89,6 @@ abbrev pub force_type : Option Decl → Option ExprType
 force_type None = None
 force_type (Some decl) = declared_force decl.what
 
--- a FORCE variable of this type takes the value
-abbrev pub taken_by : Option ExprType → Value → OrStop Value
-taken_by (Some (Scaled num_or_vec.Num scale)) (values.Num a s) = only_if (scale == s) (Ok (values.Num a s))
-taken_by (Some (Scaled num_or_vec.Vec3 scale)) (values.Vec3 a s) = only_if (scale == s) (Ok (values.Vec3 a s))
-taken_by _ _ = no_result
-
 abbrev pub at_stmt : Stmt-F Statements Statements → Statements
 at_stmt stmt = stmt.act
 
@@ -106,19 +97,19 @@ module _ (decls : List Decl) (coincident : Bool) where
   -- name = value;
   abbrev pub assign : List ℕ → Expr → ℕ → ℕ → State → OrPairStop State
   assign name value n slot state = do
-    held ← at_statement coincident n (value_of state.known value >>= number)
+    held ← at_statement coincident n (number_value_of state.known value)
     Ok (record { known = with_assigned state.known name held; given = state.given })
 
   -- name += value;
   abbrev pub give : List ℕ → Expr → ℕ → ℕ → State → OrPairStop State
   give name value n slot state = do
-    given ← at_statement coincident n (value_of state.known value >>= taken_by (force_type (declaration decls name)))
+    given ← at_statement coincident n (contribution_of state.known (force_type (declaration decls name)) value)
     Ok (record { known = state.known; given = slice_set state.given slot (Some given) })
 
   -- only the taken block
   abbrev pub choose : Expr → Statements → Statements → ℕ → ℕ → State → OrPairStop State
   choose condition body others n slot state = do
-    holds ← at_statement coincident n (value_of state.known condition >>= truth)
+    holds ← at_statement coincident n (truth_of state.known condition)
     if holds then body.run (n + 1) slot state else others.run (n + 1 + body.count) (slot + body.slots) state
 
   abbrev pub act_statements : Act-F Statements Statements → Statements

@@ -2,12 +2,23 @@
 // It stands on the typed kernels of kern_types, the particles of pf_model and the numbers of pf_num.
 #![tactic(auto)]
 
+mod expression;
 mod fault;
+mod laws;
 mod numbers;
 mod operators;
+mod pairing;
+mod prepare;
+mod scratch;
+mod statement;
 mod stop;
 mod value;
+mod variable;
 
 pub use fault::{PairFault, PairKind};
+pub use laws::typed_kernels_have_one_pair;
+pub use pairing::{pair, slot};
+pub use prepare::for_kernel;
+pub use scratch::Scratch;
 pub use stop::{PairStop, Stop};
 pub use value::Value;

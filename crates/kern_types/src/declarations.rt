@@ -10,7 +10,7 @@ use kern_tree::{Combine, Decl, DeclKind, Kind};
 use std::alloc::{AllocError, Global};
 
 /// The declaration of the name. A kernel has at most 512 nodes, so a walk is fast enough.
-pub(crate) fn declaration<'k>(decls: &'k [Decl], name: &[u8]) -> Option<&'k Decl>
+pub fn declaration<'k>(decls: &'k [Decl], name: &[u8]) -> Option<&'k Decl>
     ensures { option_copied result ≡ meanings.declaration decls.now name.now }
 {
     decls.iter().find(|decl| decl.name.as_bytes() == name)

@@ -6,14 +6,14 @@ use kern_tree::Kind;
 
 /// A field that a declaration can name.
 #[derive(Clone, Copy)]
-pub(crate) struct Field {
+pub struct Field {
     /// Whether the particle that takes has it.
-    pub(crate) epi: bool,
+    pub epi: bool,
     /// Whether the item that gives has it.
-    pub(crate) epj: bool,
-    pub(crate) kind: Kind,
+    pub epj: bool,
+    pub kind: Kind,
     /// The number of fraction bits, where it isn't as declared.
-    pub(crate) scale: Option<u32>,
+    pub scale: Option<u32>,
 }
 
 /// The field that a particle has by this name.

@@ -16,8 +16,12 @@ mod scope;
 mod statements;
 mod typed;
 
+pub use declarations::declaration;
 pub use expr_type::ExprType;
 pub use fault::TypeFault;
+pub use fields::Field;
 pub use force_var::ForceVar;
 pub use laws::one_typing;
+pub use names::Names;
+pub use scope::{Scope, Variable};
 pub use typed::{Typed, check, forces, kernel, slots};

@@ -7,7 +7,7 @@ use std::marker::Model;
 
 /// Some names. A kernel has at most 512 nodes, so a list of them is fast enough.
 #[derive(Drop)]
-pub(crate) struct Names {
+pub struct Names {
     names: Vec<Name>,
 }
 

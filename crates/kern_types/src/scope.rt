@@ -13,19 +13,19 @@ use std::mem;
 
 /// A name that was assigned, with the kind and the scale of its value.
 #[derive(Debug, Drop)]
-pub(crate) struct Variable {
-    pub(crate) name: Name,
-    pub(crate) kind: Kind,
-    pub(crate) scale: u32,
+pub struct Variable {
+    pub name: Name,
+    pub kind: Kind,
+    pub scale: u32,
 }
 
 /// What is assigned before a place of the text.
 #[derive(Drop)]
-pub(crate) struct Scope {
+pub struct Scope {
     /// The assignments that stand earlier in the text, in its order.
-    pub(crate) earlier: Items<Variable>,
+    pub earlier: Items<Variable>,
     /// The names that every path from the start to the place assigns.
-    pub(crate) certain: Names,
+    pub certain: Names,
 }
 
 impl Scope {

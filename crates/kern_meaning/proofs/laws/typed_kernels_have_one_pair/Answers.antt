@@ -1,0 +1,5 @@
+use Rattle.kern_meaning.proofs.TypedPairs.{typing}
+use Rattle.kern_meaning.proofs.laws.typed_kernels_have_one_pair.Goals as goal
+
+pub returns : goal.returns
+returns c = typing c.parsed_kernels_keep_limits.ensures

@@ -1,0 +1,11 @@
+ghost use Rattle.kern_meaning.specs.Typing.{Typing};
+
+use kern_tree::parsed_kernels_keep_limits;
+
+/// For a typed kernel each particle and each item have exactly one answer: contributions, or a first
+/// fault. So a wrong kind, a wrong scale or a name without a value is never met.
+pub fn typed_kernels_have_one_pair()
+    ensures { Typing }
+{
+    parsed_kernels_keep_limits();
+}

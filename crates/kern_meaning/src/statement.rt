@@ -1,0 +1,199 @@
+ghost use Rattle.std.specs.Prelude.{◌≡◌, ◌+◌, ◌^◌, ◌<◌, [], ◌∷◌, Some, slice_set};
+ghost use Rattle.kern_types.specs.Names.{declaration as declaration_of};
+ghost use Rattle.kern_meaning.specs.Names.{with_assigned};
+ghost use Rattle.kern_meaning.specs.Pair as rules;
+ghost use Rattle.kern_meaning.specs.Walks.{HavePlaces, Runs, assigned_by, assigned_in, known_by, state};
+
+use crate::expression::{contribution_of, number_of, number_value_of, truth_of};
+use crate::{PairFault, PairKind, PairStop, Stop, Value};
+use kern_token::Name;
+use kern_tree::{Act, Decl, DeclKind, Stmt};
+use kern_types::{ExprType, declaration};
+use pf_num::NumFault;
+
+/// What the statements of a kernel need for a pair. A statement is called with its number and with the
+/// count of `+=` before it, and answers those of the next.
+#[derive(Clone, Copy)]
+pub(crate) struct Walk<'s> {
+    pub(crate) decls: &'s [Decl],
+    pub(crate) names: &'s [Name],
+    /// Whether the item's centre is the particle's position.
+    pub(crate) coincident: bool,
+}
+
+impl Walk<'_> {
+    #[cycle(statements)]
+    pub(crate) fn block(
+        &self,
+        block: &[Stmt],
+        first: u32,
+        before: u32,
+        values: &mut [Option<Value>],
+        slots: &mut [Option<Value>],
+    ) -> Result<(u32, u32), PairStop>
+        requires numbers { first + (rules.block_meaning self.now.decls.now self.now.coincident block.now).count < 2 ^ 32 }
+        requires slots { before + (rules.block_meaning self.now.decls.now self.now.coincident block.now).slots < 2 ^ 32 }
+        requires places { HavePlaces self.now.names.now values.old (assigned_in block.now) }
+        ensures { Runs result (rules.block_meaning self.now.decls.now self.now.coincident block.now) first before
+            (state self.now.names.now values.old slots.old) (state self.now.names.now values.new slots.new) }
+    {
+        let mut number = first;
+        let mut slot = before;
+        for stmt in block {
+            let next = self.act(&stmt.act, number, slot, values, slots)?;
+            number = next.0;
+            slot = next.1;
+        }
+        Ok((number, slot))
+    }
+
+    #[cycle(statements)]
+    fn act(
+        &self,
+        act: &Act,
+        number: u32,
+        slot: u32,
+        values: &mut [Option<Value>],
+        slots: &mut [Option<Value>],
+    ) -> Result<(u32, u32), PairStop>
+        requires numbers { number + (rules.act_meaning self.now.decls.now self.now.coincident act.now).count < 2 ^ 32 }
+        requires slots { slot + (rules.act_meaning self.now.decls.now self.now.coincident act.now).slots < 2 ^ 32 }
+        requires places { HavePlaces self.now.names.now values.old (assigned_by act.now) }
+        ensures { Runs result (rules.act_meaning self.now.decls.now self.now.coincident act.now) number slot
+            (state self.now.names.now values.old slots.old) (state self.now.names.now values.new slots.new) }
+    {
+        match act {
+            Act::Set(name, value) => {
+                let held = number_value_of(value, self.names, values);
+                let held = at_statement(self.coincident, number, held)?;
+                assign(self.names, name, held, values);
+                Ok((number + 1, slot))
+            }
+            Act::Give(name, value) => {
+                let force = force_of(self.decls, name);
+                let given = contribution_of(value, force, self.names, values);
+                let given = at_statement(self.coincident, number, given)?;
+                give(slots, slot, given);
+                Ok((number + 1, slot + 1))
+            }
+            Act::If(condition, body, others) => {
+                let holds = truth_of(condition, self.names, values);
+                if at_statement(self.coincident, number, holds)? {
+                    let end = self.block(body.as_slice(), number + 1, slot, values, slots)?;
+                    Ok(self.past(others.as_slice(), end.0, end.1))
+                } else {
+                    let start = self.past(body.as_slice(), number + 1, slot);
+                    self.block(others.as_slice(), start.0, start.1, values, slots)
+                }
+            }
+        }
+    }
+
+    // The next number and the count of `+=`, after statements that aren't run.
+    #[cycle(skipped)]
+    fn past(&self, block: &[Stmt], first: u32, before: u32) -> (u32, u32)
+        requires numbers { first + (rules.block_meaning self.now.decls.now self.now.coincident block.now).count < 2 ^ 32 }
+        requires slots { before + (rules.block_meaning self.now.decls.now self.now.coincident block.now).slots < 2 ^ 32 }
+        ensures number { result.0 ≡ first + (rules.block_meaning self.now.decls.now self.now.coincident block.now).count }
+        ensures slot { result.1 ≡ before + (rules.block_meaning self.now.decls.now self.now.coincident block.now).slots }
+    {
+        let mut number = first;
+        let mut slot = before;
+        for stmt in block {
+            let next = self.past_act(&stmt.act, number, slot);
+            number = next.0;
+            slot = next.1;
+        }
+        (number, slot)
+    }
+
+    #[cycle(skipped)]
+    fn past_act(&self, act: &Act, number: u32, slot: u32) -> (u32, u32)
+        requires numbers { number + (rules.act_meaning self.now.decls.now self.now.coincident act.now).count < 2 ^ 32 }
+        requires slots { slot + (rules.act_meaning self.now.decls.now self.now.coincident act.now).slots < 2 ^ 32 }
+        ensures number { result.0 ≡ number + (rules.act_meaning self.now.decls.now self.now.coincident act.now).count }
+        ensures slot { result.1 ≡ slot + (rules.act_meaning self.now.decls.now self.now.coincident act.now).slots }
+    {
+        match act {
+            Act::Set(_, _) => (number + 1, slot),
+            Act::Give(_, _) => (number + 1, slot + 1),
+            Act::If(_, body, others) => {
+                let between = self.past(body.as_slice(), number + 1, slot);
+                self.past(others.as_slice(), between.0, between.1)
+            }
+        }
+    }
+}
+
+// name = value;
+fn assign(names: &[Name], name: &Name, value: Value, values: &mut [Option<Value>])
+    requires { HavePlaces names.now values.old (name.now ∷ []) }
+    ensures { known_by names.now values.new ≡ with_assigned (known_by names.now values.old) name.now value }
+{
+    let place = number_of(names, name);
+    if place < values.len() {
+        values[place] = Some(value);
+    }
+}
+
+// name += value;
+fn give(slots: &mut [Option<Value>], slot: u32, value: Value)
+    ensures { slots.new ≡ slice_set slots.old slot (Some value) }
+{
+    let slot = slot as usize;
+    if slot < slots.len() {
+        slots[slot] = Some(value);
+    }
+}
+
+// The kind and the scale of a FORCE variable of this name.
+fn force_of(decls: &[Decl], name: &Name) -> Option<ExprType>
+    ensures { result ≡ rules.force_type (declaration_of decls.now name.now) }
+{
+    match declaration(decls, name.as_bytes()) {
+        Some(decl) => force_type(&decl.what),
+        None => None,
+    }
+}
+
+fn force_type(what: &DeclKind) -> Option<ExprType>
+    ensures { result ≡ rules.declared_force what.now }
+{
+    match what {
+        DeclKind::Force(kind, scale, _) => Some(ExprType::Scaled(*kind, *scale)),
+        _ => None,
+    }
+}
+
+// As the own expression of the statement of this number.
+fn at_statement<T>(coincident: bool, number: u32, answer: Result<T, Stop>) -> Result<T, PairStop>
+    ensures { result ≡ rules.at_statement coincident number answer }
+{
+    match answer {
+        Ok(value) => Ok(value),
+        Err(stop) => Err(pair_stop(coincident, number, stop)),
+    }
+}
+
+fn pair_stop(coincident: bool, number: u32, stop: Stop) -> PairStop
+    ensures { result ≡ rules.pair_stop coincident number stop }
+{
+    match stop {
+        Stop::Fault(fault) => PairStop::Fault(PairFault {
+            kind: pair_kind(coincident, fault),
+            statement: number,
+        }),
+        Stop::NoResult => PairStop::NoResult,
+    }
+}
+
+fn pair_kind(coincident: bool, fault: NumFault) -> PairKind
+    ensures { result ≡ rules.pair_kind coincident fault }
+{
+    match fault {
+        NumFault::Overflow => PairKind::Overflow,
+        NumFault::ZeroDivisor if coincident => PairKind::Coincident,
+        NumFault::ZeroDivisor => PairKind::ZeroDivisor,
+        NumFault::NegativeRoot => PairKind::NegativeRoot,
+    }
+}
