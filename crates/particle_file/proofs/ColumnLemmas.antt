@@ -1,10 +1,10 @@
 -- Numbers within the limits of their columns, and the particle that they give.
-use Rattle.std.proofs.Common.{◌≡◌, ℕ, zero, suc, ◌+◌, ◌<◌, ◌≤◌, ◌^◌, ℤ, pos, neg_ℤ, ◌≤ℤ◌, List, [], ◌∷◌, ◌++◌, length, get_or, take, drop, replicate, All, refl, sym, ap, ◌∙◌, to_z, of_z, w64, FitsSigned, arith}
+use Rattle.std.proofs.Common.{◌≡◌, ℕ, zero, suc, ◌<◌, ◌^◌, ℤ, pos, neg_ℤ, ◌≤ℤ◌, List, [], ◌∷◌, length, get_or, replicate, to_z, of_z, w64, arith}
 use Rattle.std.specs.Prelude.{unsigned_abs}
 use Rattle.std.proofs.lemmas.Int.{ints}
 use Rattle.std.proofs.lemmas.List.Elements.{All-from_recursion}
 use Rattle.std.specs.Int.Signed.{le_z_yes}
-use Rattle.pf_model.specs.Particle.{Particle, IsVelocity, IsAttribute, IsMass, IsWithinLimits}
+use Rattle.pf_model.specs.Particle.{IsVelocity, IsAttribute, IsWithinLimits}
 use Rattle.particle_file.specs.Columns.{columns, id_limits, AreWithin, number_at, particle_of}
 use Rattle.particle_file.specs.declared.columns.Limits.{Limits}
 

@@ -5,3 +5,4 @@ pub mod ReadSoFar
 pub mod NumberLemmas
 pub mod SpellingLemmas
 pub mod PrintingLemmas
+pub mod DistinctLemmas

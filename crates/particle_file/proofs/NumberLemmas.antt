@@ -1,14 +1,10 @@
 -- The numbers of a particle, and the particle of numbers.
-use Rattle.std.proofs.Common.{◌≡◌, ℕ, zero, suc, ◌+◌, ◌-◌, ◌<◌, ◌≤◌, ◌^◌, ℤ, pos, negsuc, neg_ℤ, ◌≤ℤ◌, List, [], ◌∷◌, ◌++◌, length, get_or, take, drop, replicate, All, refl, sym, ap, ap₂, ◌∙◌, subst, arith}
+use Rattle.std.proofs.Common.{◌≡◌, suc, ◌^◌, ℤ, pos, negsuc, neg_ℤ, ◌≤ℤ◌, List, [], ◌∷◌, length, drop, replicate, refl, sym, ap, ◌∙◌, subst, arith}
 use Rattle.std.specs.Prelude.{unsigned_abs}
-use Rattle.std.specs.Int.Signed.{le_z_yes}
 use Rattle.std.proofs.lemmas.Int.{ints}
-use Rattle.std.proofs.lemmas.List.Elements.{All-from_recursion}
-use Rattle.pf_geom.specs.Position.{Position, IsInCube}
 use Rattle.pf_model.specs.Particle.{Particle, IsVelocity, IsAttribute, IsParticle}
-use Rattle.text_lines.specs.Laws.{IntegersAreFound}
 use Rattle.particle_file.specs.Columns.{columns, AreWithin, numbers, number_at, particle_of}
-use Rattle.particle_file.specs.Spelling.{IsPlain, SpellsNumber, SpellNumbers}
+use Rattle.particle_file.specs.Spelling.{IsPlain}
 use Rattle.particle_file.specs.declared.columns.Limits.{Limits}
 use Rattle.particle_file.proofs.ColumnLemmas.{column_within, particle_of-limits}
 

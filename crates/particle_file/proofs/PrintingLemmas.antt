@@ -1,5 +1,5 @@
 -- The canonical text of particles.
-use Rattle.std.proofs.Common.{◌≡◌, ◌≢◌, ℕ, zero, suc, ◌+◌, ◌-◌, ◌<◌, ◌≤◌, ◌^◌, true, ℤ, pos, negsuc, neg_ℤ, ◌≤ℤ◌, List, [], ◌∷◌, ◌++◌, length, get_or, take, drop, map, append_assoc, refl, sym, ap, ap₂, ◌∙◌, subst, arith}
+use Rattle.std.proofs.Common.{◌≡◌, ◌≢◌, ℕ, suc, ◌+◌, ◌<◌, ◌^◌, true, ℤ, pos, neg_ℤ, ◌≤ℤ◌, List, [], ◌∷◌, ◌++◌, length, get_or, take, map, append_assoc, refl, sym, ap, ap₂, ◌∙◌, subst, arith}
 use Rattle.std.specs.Fmt.{decimal}
 use Rattle.std.specs.Prelude.{codes, unsigned_abs, nat_le}
 use Rattle.std.specs.Fmt.{signed_decimal}
@@ -15,11 +15,10 @@ use Rattle.std.specs.Int.Signed.{le_z_yes}
 use Rattle.pf_model.specs.Particle.{Particle, IsParticle}
 use Rattle.pf_model.specs.Particles.{AreBodies}
 use Rattle.text_lines.specs.Laws.{IntegersReadBack, DigitsReadBack, WrittenLinesReadBack}
-use Rattle.text_lines.specs.Lines.{FieldLine, field_lines}
-use Rattle.text_lines.specs.Written.{IsFieldByte, IsField, IsWritable, written_line, written, numbered_from}
+use Rattle.text_lines.specs.Written.{IsFieldByte, IsField, IsWritable, written_line, numbered_from}
 use Rattle.particle_file.specs.Columns.{columns, AreWithin, numbers}
 use Rattle.particle_file.specs.Printing.{fields_of, lines_of, particles_text}
-use Rattle.particle_file.specs.Spelling.{IsPlain, SpellsNumber, SpellNumbers, SpellsParticle, SpellParticles, SpellsText}
+use Rattle.particle_file.specs.Spelling.{IsPlain, SpellNumbers, SpellParticles, SpellsText}
 use Rattle.particle_file.specs.declared.columns.Limits.{Limits}
 use Rattle.particle_file.proofs.NumberLemmas.{three_out, numbers-within}
 

@@ -1,5 +1,5 @@
 -- How the reading goes on: from column to column, and from line to line.
-use Rattle.std.proofs.Common.{◌≡◌, ℕ, zero, suc, ◌+◌, ◌-◌, eqb, ◌<◌, ◌≤◌, Bool, true, false, cond, ℤ, List, [], ◌∷◌, ◌++◌, length, append_assoc, add-one, get_or, take, drop, set, drop-cons, Result, Ok, Err, refl, sym, ap, ◌∙◌, subst, arith}
+use Rattle.std.proofs.Common.{◌≡◌, ℕ, suc, ◌+◌, ◌-◌, eqb, ◌<◌, true, false, cond, ℤ, List, [], ◌∷◌, ◌++◌, length, append_assoc, add-one, get_or, take, drop, set, drop-cons, Result, Ok, Err, refl, sym, ap, ◌∙◌, subst, arith}
 use Rattle.std.proofs.lemmas.List.{take_more_set, take_all, append-nil}
 use Rattle.text_lines.specs.Laws.{IntegersAreFound}
 use Rattle.text_lines.specs.declared.number.NumberFault.{NumberFault}
@@ -8,8 +8,8 @@ use Rattle.std.specs.List.{list_any}
 use Rattle.pf_model.specs.Particle.{Particle}
 use Rattle.text_lines.specs.Lines.{FieldLine}
 use Rattle.text_lines.specs.Numbers.{integer_in}
-use Rattle.particle_file.specs.Columns.{columns, id_limits, AreWithin, particle_of}
-use Rattle.particle_file.specs.Reading.{◌>>=◌, number_or, with_first, numbers_in, particle_in, particles_in}
+use Rattle.particle_file.specs.Columns.{columns, AreWithin, particle_of}
+use Rattle.particle_file.specs.Reading.{◌>>=◌, number_or, with_first, numbers_in, particles_in}
 use Rattle.particle_file.specs.declared.columns.Limits.{Limits}
 use Rattle.particle_file.specs.declared.fault.PartFault.{PartFault}
 use Rattle.particle_file.specs.declared.fault.PartFault.TheVariants as faults

@@ -1,15 +1,14 @@
 -- What a text spells is read, and what is read is spelled.
-use Rattle.std.proofs.Common.{◌≡◌, ℕ, zero, suc, ◌+◌, ◌≤◌, eqb, Bool, true, false, ◌&&◌, cond, ℤ, List, [], ◌∷◌, ◌++◌, length, map, append_assoc, Result, Ok, Err, refl, sym, ap, ◌∙◌, subst, ⊎_elim, arith}
-use Rattle.std.specs.Prelude.{nat_eq, codes, Option, Some, None}
+use Rattle.std.proofs.Common.{◌≡◌, ℕ, zero, suc, ◌≤◌, eqb, Bool, true, false, ◌&&◌, cond, ℤ, List, [], ◌∷◌, ◌++◌, length, append_assoc, Result, Ok, Err, refl, sym, ap, ◌∙◌, subst, ⊎_elim, arith}
+use Rattle.std.specs.Prelude.{nat_eq, codes}
 use Rattle.std.specs.Cmp.Lexicographic.{pointwise, same_text}
 use Rattle.std.specs.Option.{option_map_or}
-use Rattle.std.specs.List.{AllByRecursion, IsDistinct, list_any}
-use Rattle.std.specs.Str.Parse.{digits_value}
+use Rattle.std.specs.List.{list_any}
 use Rattle.std.proofs.lemmas.Bool.{and_parts, cases_Bool}
-use Rattle.std.proofs.lemmas.List.{append-nil, map-append}
+use Rattle.std.proofs.lemmas.List.{append-nil}
 use Rattle.pf_model.specs.declared.limits.TheConstants.{MOST_PARTICLES}
-use Rattle.pf_model.specs.Particle.{Particle, IsParticle}
-use Rattle.pf_model.specs.Particles.{AreBodies, HaveDistinctIds}
+use Rattle.pf_model.specs.Particle.{Particle}
+use Rattle.pf_model.specs.Particles.{HaveDistinctIds}
 use Rattle.text_lines.specs.Laws.{IntegersAreFound, DigitsAreFound}
 use Rattle.text_lines.specs.Lines.{FieldLine, lines, field_lines}
 use Rattle.text_lines.specs.Numbers.{digits_in, integer_in}
@@ -17,7 +16,7 @@ use Rattle.text_lines.specs.declared.number.NumberFault.{NumberFault}
 use Rattle.text_lines.specs.declared.number.NumberFault.TheVariants.{NoNumber, OutOfRange}
 use Rattle.particle_file.specs.Columns.{columns, AreWithin, numbers, particle_of}
 use Rattle.particle_file.specs.Reading.{◌>>=◌, number_or, with_first, numbers_in, particle_in, particles_in, two_of, is_header, count_in, counted_in, reading_of, reading}
-use Rattle.particle_file.specs.Spelling.{IsPlain, SpellsNumber, SpellNumbers, SpellsParticle, SpellParticles, IsHeader, IsCount, SpellsText}
+use Rattle.particle_file.specs.Spelling.{SpellNumbers, SpellsParticle, SpellParticles, IsHeader, IsCount, SpellsText}
 use Rattle.particle_file.specs.declared.columns.Limits.{Limits}
 use Rattle.particle_file.specs.declared.fault.PartFault.{PartFault}
 use Rattle.particle_file.specs.declared.fault.PartFault.TheVariants as faults

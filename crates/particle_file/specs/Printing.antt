@@ -1,5 +1,5 @@
 -- The canonical text of particles.
-use Rattle.std.specs.Prelude.{ℕ, List, [], ◌∷◌, ◌++◌, length, map, codes}
+use Rattle.std.specs.Prelude.{ℕ, List, [], ◌∷◌, length, map, codes}
 use Rattle.std.specs.Fmt.{decimal, signed_decimal}
 use Rattle.pf_model.specs.Particle.{Particle}
 use Rattle.text_lines.specs.Written.{written}

@@ -11,6 +11,6 @@ mod reading;
 
 pub use fault::PartFault;
 pub use laws::{printed_particles_read_back, reading_is_spelling};
-pub use particles::{Particles, bodies};
+pub use particles::{Particles, bodies, of_bodies};
 pub use printing::print;
 pub use reading::read;

@@ -1,4 +1,4 @@
-use Rattle.std.proofs.Common.{◌≡◌, ◌∷◌, [], ℤ, pos, length, get_or, to_z, of_z, w64, ap, ◌∙◌, rules}
+use Rattle.std.proofs.Common.{◌≡◌, ◌∷◌, [], pos, length, get_or, to_z, of_z, w64, ap, ◌∙◌, rules}
 use Rattle.std.proofs.lemmas.Int.{to_z-of_z}
 use Rattle.particle_file.proofs.PrintingLemmas.{others-are}
 use Rattle.particle_file.proofs.printing.numbers_after_id.Goals as goal

@@ -1,8 +1,8 @@
-use Rattle.std.proofs.Common.{◌≡◌, ◌+◌, ◌<◌, ◌≤◌, [], ◌∷◌, ◌++◌, ℤ, pos, List, length, map, take, get_or, append_assoc, to_z, of_z, w64, sym, ap, ◌∙◌, arith, rules}
+use Rattle.std.proofs.Common.{◌≡◌, [], ◌∷◌, ◌++◌, pos, map, take, get_or, append_assoc, to_z, of_z, w64, sym, ap, ◌∙◌, arith, rules}
 use Rattle.std.specs.Fmt.{decimal, signed_decimal}
 use Rattle.std.specs.Int.{w128}
 use Rattle.std.specs.List.{flat_map}
-use Rattle.std.proofs.lemmas.Int.{ints, to_z-of_z}
+use Rattle.std.proofs.lemmas.Int.{to_z-of_z}
 use Rattle.std.proofs.lemmas.List.{append-nil, take_all}
 use Rattle.text_lines.specs.Written.{written_line}
 use Rattle.particle_file.proofs.PrintingLemmas.{written_line-numbers, spaced-more, pushed-more}

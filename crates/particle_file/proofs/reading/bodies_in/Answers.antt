@@ -1,6 +1,6 @@
-use Rattle.std.proofs.Common.{◌≡◌, ℕ, ◌+◌, ◌-◌, ◌<◌, ◌≤◌, Ok, Err, inl, inr, refl, sym, ap, ◌∙◌, subst, arith, rules}
+use Rattle.std.proofs.Common.{◌≡◌, ◌-◌, inr, refl, sym, ap, ◌∙◌, arith}
 use Rattle.std.proofs.lemmas.Result.{err_from_is_err_and}
-use Rattle.particle_file.proofs.ReadSoFar.{IsReadSoFar, IsNextParticle, nothing_read, one_more_read, stops_at_line, stops_at_id, stops_at_end, at_none}
+use Rattle.particle_file.proofs.ReadSoFar.{IsNextParticle, nothing_read, one_more_read, stops_at_line, stops_at_id, stops_at_end, at_none}
 use Rattle.particle_file.specs.Reading.{particles_in}
 use Rattle.particle_file.proofs.reading.bodies_in.Goals as goal
 
