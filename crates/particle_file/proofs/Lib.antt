@@ -6,3 +6,5 @@ pub mod NumberLemmas
 pub mod SpellingLemmas
 pub mod PrintingLemmas
 pub mod DistinctLemmas
+pub mod ColumnFaults
+pub mod TextFaults

@@ -3,11 +3,11 @@ use Rattle.std.proofs.Common.{◌≡◌, ℕ, zero, suc, ◌≤◌, eqb, Bool, t
 use Rattle.std.specs.Prelude.{nat_eq, codes}
 use Rattle.std.specs.Cmp.Lexicographic.{pointwise, same_text}
 use Rattle.std.specs.Option.{option_map_or}
-use Rattle.std.specs.List.{list_any}
+use Rattle.std.specs.List.{AllByRecursion, list_any}
 use Rattle.std.proofs.lemmas.Bool.{and_parts, cases_Bool}
 use Rattle.std.proofs.lemmas.List.{append-nil}
 use Rattle.pf_model.specs.declared.limits.TheConstants.{MOST_PARTICLES}
-use Rattle.pf_model.specs.Particle.{Particle}
+use Rattle.pf_model.specs.Particle.{Particle, IsParticle}
 use Rattle.pf_model.specs.Particles.{HaveDistinctIds}
 use Rattle.text_lines.specs.Laws.{IntegersAreFound, DigitsAreFound}
 use Rattle.text_lines.specs.Lines.{FieldLine, lines, field_lines}
@@ -16,7 +16,7 @@ use Rattle.text_lines.specs.declared.number.NumberFault.{NumberFault}
 use Rattle.text_lines.specs.declared.number.NumberFault.TheVariants.{NoNumber, OutOfRange}
 use Rattle.particle_file.specs.Columns.{columns, AreWithin, numbers, particle_of}
 use Rattle.particle_file.specs.Reading.{◌>>=◌, number_or, with_first, numbers_in, particle_in, particles_in, two_of, is_header, count_in, counted_in, reading_of, reading}
-use Rattle.particle_file.specs.Spelling.{SpellNumbers, SpellsParticle, SpellParticles, IsHeader, IsCount, SpellsText}
+use Rattle.particle_file.specs.Spelling.{IsPlain, SpellNumbers, SpellsParticle, SpellParticles, IsHeader, IsCount, SpellsText}
 use Rattle.particle_file.specs.declared.columns.Limits.{Limits}
 use Rattle.particle_file.specs.declared.fault.PartFault.{PartFault}
 use Rattle.particle_file.specs.declared.fault.PartFault.TheVariants as faults
@@ -25,7 +25,7 @@ use Rattle.particle_file.proofs.NumberLemmas.{numbers-particle_of, particle_of-p
 use Rattle.particle_file.proofs.IdLemmas.{has_id, distinct-push, fresh_id, no_ids}
 
 -- the fields spell the numbers that are read from them
-numbers_in-spelled : (line column : ℕ) (cs : List Limits) (fields : List (List ℕ)) (ns : List ℤ) → IntegersAreFound → numbers_in line column cs fields ≡ Ok ns → SpellNumbers fields ns
+pub numbers_in-spelled : (line column : ℕ) (cs : List Limits) (fields : List (List ℕ)) (ns : List ℤ) → IntegersAreFound → numbers_in line column cs fields ≡ Ok ns → SpellNumbers fields ns
 numbers_in-spelled line column [] [] ns found read = let none : ns ≡ [] = cc in subst (SpellNumbers []) (sym none) tt
 numbers_in-spelled line column [] (field ∷ fields) ns found read = cc
 numbers_in-spelled line column (c ∷ cs) [] ns found read = cc
@@ -36,7 +36,7 @@ numbers_in-spelled line column (c ∷ cs) (field ∷ fields) ns found read =
     subst (SpellNumbers (field ∷ fields)) (sym rest.2) (record { digits = is.digits; value = is.value }, numbers_in-spelled line (suc column) cs fields rest.0 found rest.1)
 
 -- fields that spell numbers within the limits of their columns are read
-numbers_in-read : (line column : ℕ) (cs : List Limits) (fields : List (List ℕ)) (ns : List ℤ) → IntegersAreFound → SpellNumbers fields ns → AreWithin cs ns → numbers_in line column cs fields ≡ Ok ns
+pub numbers_in-read : (line column : ℕ) (cs : List Limits) (fields : List (List ℕ)) (ns : List ℤ) → IntegersAreFound → SpellNumbers fields ns → AreWithin cs ns → numbers_in line column cs fields ≡ Ok ns
 numbers_in-read line column [] [] [] found spelled within = refl
 numbers_in-read line column [] [] (n ∷ ns) found spelled within = absurd spelled
 numbers_in-read line column [] (field ∷ fields) [] found spelled within = absurd spelled
@@ -55,7 +55,7 @@ chosen true fault x y e = cc
 chosen false fault x y e = (refl, let same : x ≡ y = cc in same)
 
 -- a particle that is read is spelled, and has a new id
-particle_in-spelled : (before : List Particle) (line : FieldLine) (p : Particle) → IntegersAreFound → particle_in before line ≡ Ok p → SpellsParticle line p × (has_id before p.id ≡ false)
+pub particle_in-spelled : (before : List Particle) (line : FieldLine) (p : Particle) → IntegersAreFound → particle_in before line ≡ Ok p → SpellsParticle line p × (has_id before p.id ≡ false)
 particle_in-spelled before line p found read =
     let ns = bind-ok (numbers_in line.number 1 columns line.fields) (λ ns. cond (list_any (λ q. eqb q.id (particle_of ns).id) before) (Err (faults.DuplicateId line.number)) (Ok (particle_of ns))) p read in
     let is = chosen (has_id before (particle_of ns.0).id) (faults.DuplicateId line.number) (particle_of ns.0) p ns.2 in
@@ -70,7 +70,7 @@ particle_in-spelled before line p found read =
     )
 
 -- a particle that is spelled, and has a new id, is read
-particle_in-read : (before : List Particle) (line : FieldLine) (p : Particle) → IntegersAreFound → SpellsParticle line p → has_id before p.id ≡ false → particle_in before line ≡ Ok p
+pub particle_in-read : (before : List Particle) (line : FieldLine) (p : Particle) → IntegersAreFound → SpellsParticle line p → has_id before p.id ≡ false → particle_in before line ≡ Ok p
 particle_in-read before line p found spelled fresh =
     let read = numbers_in-read line.number 1 columns line.fields (numbers p) found spelled.numbers (numbers-within p spelled.particle spelled.plain) in
     let is = particle_of-numbers p spelled.particle spelled.plain in
@@ -121,7 +121,7 @@ two_of-some (a ∷ []) f d x other e = absurd (other e)
 two_of-some (a ∷ b ∷ []) f d x other e = (a, b, refl, e)
 two_of-some (a ∷ b ∷ c ∷ more) f d x other e = absurd (other e)
 
-header_spelled : (line : FieldLine) → is_header line.fields ≡ true → IsHeader line
+pub header_spelled : (line : FieldLine) → is_header line.fields ≡ true → IsHeader line
 header_spelled line passes =
     let two = two_of-some line.fields (λ p. pointwise nat_eq p.0 (codes "particles") && pointwise nat_eq p.1 (codes "1")) false true (λ e. cc) passes in
     let parts = and_parts (pointwise nat_eq two.0 (codes "particles")) (pointwise nat_eq two.1 (codes "1")) two.3 in
@@ -175,10 +175,10 @@ pub what_is_read_is_spelled : (text : List ℕ) (ps : List Particle) → Integer
 unfolding reading
 what_is_read_is_spelled text ps integers digits read = lines_spelled text (length (lines text)) (field_lines text) ps integers digits refl read
 
-header_read : (line : FieldLine) → IsHeader line → is_header line.fields ≡ true
+pub header_read : (line : FieldLine) → IsHeader line → is_header line.fields ≡ true
 header_read line is = ap is_header is
 
-count_read : (line : FieldLine) (n : ℕ) → DigitsAreFound → IsCount line n → n ≤ MOST_PARTICLES → count_in line.fields ≡ Ok n
+pub count_read : (line : FieldLine) (n : ℕ) → DigitsAreFound → IsCount line n → n ≤ MOST_PARTICLES → count_in line.fields ≡ Ok n
 count_read line n found is few =
     let read = (found 0 MOST_PARTICLES is.field n).1 (record { digits = is.digits; value = is.value; low = omega arith; high = few }) in
     ap count_in is.fields_are ∙ ap (number_or faults.Count faults.TooMany) read
@@ -190,3 +190,12 @@ what_is_spelled_is_read text ps integers digits is =
     ∙ ap (λ b. cond b (counted_in (length (lines text)) (is.count ∷ is.lines)) (Err faults.Header)) (header_read is.header is.is_header)
     ∙ ap (λ r. r >>= λ due. particles_in (length (lines text)) due [] is.lines) (count_read is.count (length ps) digits is.is_count is.bodies.few)
     ∙ particles_in-read (length (lines text)) [] ps is.lines integers is.each is.bodies.distinct
+
+each_plain : (ls : List FieldLine) (ps : List Particle) → SpellParticles ls ps → AllByRecursion IsParticle ps × AllByRecursion IsPlain ps
+each_plain [] [] each = (tt, tt)
+each_plain [] (p ∷ ps) each = absurd each
+each_plain (line ∷ ls) [] each = absurd each
+each_plain (line ∷ ls) (p ∷ ps) each = let rest = each_plain ls ps each.1 in ((each.0.particle, rest.0), (each.0.plain, rest.1))
+
+pub what_is_spelled_is_plain : (text : List ℕ) (ps : List Particle) → SpellsText text ps → AllByRecursion IsParticle ps × AllByRecursion IsPlain ps
+what_is_spelled_is_plain text ps is = each_plain is.lines ps is.each

@@ -1,8 +1,10 @@
 -- What the texts of particles keep.
-use Rattle.std.specs.Prelude.{◌≡◌, ℕ, List, Ok}
+use Rattle.std.specs.Prelude.{◌≡◌, ◌↔◌, ℕ, List, Ok, Err}
 use Rattle.std.specs.List.{AllByRecursion}
 use Rattle.pf_model.specs.Particle.{Particle, IsParticle}
 use Rattle.pf_model.specs.Particles.{AreBodies}
+use Rattle.particle_file.specs.FirstFault.{HasFirstFault}
+use Rattle.particle_file.specs.declared.fault.PartFault.{PartFault}
 use Rattle.particle_file.specs.Printing.{particles_text}
 use Rattle.particle_file.specs.Reading.{reading}
 use Rattle.particle_file.specs.Spelling.{SpellsText, IsPlain}
@@ -14,6 +16,14 @@ WhatIsSpelledIsRead = (text : List ℕ) (ps : List Particle) → SpellsText text
 -- what is read is spelled
 abbrev pub WhatIsReadIsSpelled : Type 0
 WhatIsReadIsSpelled = (text : List ℕ) (ps : List Particle) → reading text ≡ Ok ps → SpellsText text ps
+
+-- a text has a first fault exactly where reading answers it, so it has one at most
+abbrev pub FaultsAreFirst : Type 0
+FaultsAreFirst = (text : List ℕ) (fault : PartFault) → (reading text ≡ Err fault) ↔ HasFirstFault text fault
+
+-- what is spelled keeps every limit, and has no attributes past c3
+abbrev pub WhatIsSpelledIsPlain : Type 0
+WhatIsSpelledIsPlain = (text : List ℕ) (ps : List Particle) → SpellsText text ps → AllByRecursion IsParticle ps × AllByRecursion IsPlain ps
 
 abbrev pub PrintedParticlesReadBack : Type 0
 PrintedParticlesReadBack = (ps : List Particle) → AreBodies ps → AllByRecursion IsParticle ps → AllByRecursion IsPlain ps

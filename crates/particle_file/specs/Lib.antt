@@ -1,5 +1,6 @@
 pub mod Columns
 pub mod FaultText
+pub mod FirstFault
 pub mod Laws
 pub mod Printing
 pub mod Reading

@@ -1,4 +1,4 @@
-ghost use Rattle.particle_file.specs.Laws.{WhatIsSpelledIsRead, WhatIsReadIsSpelled, PrintedParticlesReadBack};
+ghost use Rattle.particle_file.specs.Laws.{FaultsAreFirst, WhatIsSpelledIsRead, WhatIsReadIsSpelled, WhatIsSpelledIsPlain, PrintedParticlesReadBack};
 
 use text_lines::{numbers_are_found, numbers_read_back, written_lines_read_back};
 
@@ -6,6 +6,8 @@ use text_lines::{numbers_are_found, numbers_read_back, written_lines_read_back};
 pub fn reading_is_spelling()
     ensures spelled { WhatIsSpelledIsRead }
     ensures read { WhatIsReadIsSpelled }
+    ensures plain { WhatIsSpelledIsPlain }
+    ensures first { FaultsAreFirst }
 {
     numbers_are_found();
 }

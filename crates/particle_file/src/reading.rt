@@ -1,9 +1,11 @@
 ghost use Rattle.std.specs.Prelude.{◌≡◌, ◌≢◌, ◌^◌, ◌≤◌, ◌⊎◌, [], Err, Ok, IfOk, IfErr, MatchOption, MatchResult, IsTrue, IfSome, IsNone, length};
 ghost use Rattle.std.specs.Cmp.Lexicographic.{pointwise};
 ghost use Rattle.std.specs.Option.{option_map};
+ghost use Rattle.std.specs.List.{AllByRecursion};
 ghost use Rattle.pf_model.specs.Particles.{AreBodies};
+ghost use Rattle.particle_file.specs.FirstFault.{HasFirstFault};
 ghost use Rattle.particle_file.specs.Reading.{two_of, is_header, count_in, particles_in, counted_in, reading_of, reading, GivesUnlessMemory};
-ghost use Rattle.particle_file.specs.Spelling.{SpellsText};
+ghost use Rattle.particle_file.specs.Spelling.{IsPlain, SpellsText};
 ghost use Rattle.particle_file.specs.declared.fault.PartFault.TheVariants.{Memory};
 
 use crate::columns::{body_of, numbers_in};
@@ -18,6 +20,9 @@ use text_lines::{Line, Lines, NumberFault, digits_in};
 pub fn read(alloc: Global, text: &[u8]) -> Result<Particles, PartFault>
     requires { length text.now ≤ 2 ^ 31 }
     ensures spelled { IfOk result (λ particles. SpellsText text.now particles) }
+    ensures plain { IfOk result (λ particles. AllByRecursion IsPlain particles) }
+    ensures first { IfErr result (λ fault. (fault ≡ Memory) ⊎ HasFirstFault text.now fault) }
+    // Each answer comes wherever it is the text's reading, but for want of memory.
     ensures exact { GivesUnlessMemory result (reading text.now) }
 {
     reading_is_spelling();

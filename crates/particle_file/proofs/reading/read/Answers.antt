@@ -1,5 +1,10 @@
-use Rattle.std.proofs.Common.{◌≡◌, ℕ, List, [], length, Err, inl, inr, ⊎_elim, sym, ap, ◌∙◌}
+use Rattle.std.proofs.Common.{◌≡◌, ℕ, List, [], length, Err, inl, inr, ⊎_elim, sym, ap, ◌∙◌, ◌⊎◌, Result, Ok, IfErr}
 use Rattle.std.proofs.lemmas.Result.{err_from_is_err_and}
+use Rattle.pf_model.specs.Particle.{Particle}
+use Rattle.particle_file.specs.FirstFault.{HasFirstFault}
+use Rattle.particle_file.specs.Laws.{FaultsAreFirst}
+use Rattle.particle_file.specs.Reading.{GivesUnlessMemory}
+use Rattle.particle_file.specs.declared.fault.PartFault.{PartFault}
 use Rattle.text_lines.specs.Lines.{LinesAhead, lines, field_lines}
 use Rattle.particle_file.specs.Reading.{particles_in, reading_of, reading}
 use Rattle.particle_file.specs.declared.fault.PartFault.TheVariants as faults
@@ -37,3 +42,20 @@ returns-in-Some-clause-exact c =
     ∙ ap (λ n. particles_in n c.in_ok-due.due [] c.head.new.lines.ahead) (sym c.in_ok-due.ensures.count)
     ∙ c.in_ok-bodies.ensures.ok ∙ ap (particles_in c.head.new.lines.count 0 c.in_ok-bodies.bodies.items) c.in-Some.ensures.line
     ∙ ap (λ l. Err (faults.Trailing l.number)) (sym c.line.view_is))
+
+pub returns-in-None-clause-plain : goal.returns-in-None-clause-plain
+returns-in-None-clause-plain c = (c.reading_is_spelling.ensures.plain c.args.text.now c.in_ok-bodies.bodies.items (returns-in-None-clause-spelled c)).1
+
+-- an answer that is no particles is the first fault
+first_fault : (text : List ℕ) (result : Result (List Particle) PartFault) → FaultsAreFirst → GivesUnlessMemory result (reading text) → IfErr result (λ fault. (fault ≡ faults.Memory) ⊎ HasFirstFault text fault)
+first_fault text (Ok ps) first gives = tt
+first_fault text (Err fault) first gives = ⊎_elim inl (λ is. inr ((first text fault).0 is)) gives
+
+pub returns-in_err-due-clause-first : goal.returns-in_err-due-clause-first
+returns-in_err-due-clause-first c = first_fault c.args.text.now _ c.reading_is_spelling.ensures.first (returns-in_err-due-clause-exact c)
+
+pub returns-in_err-bodies-clause-first : goal.returns-in_err-bodies-clause-first
+returns-in_err-bodies-clause-first c = first_fault c.args.text.now _ c.reading_is_spelling.ensures.first (returns-in_err-bodies-clause-exact c)
+
+pub returns-in-Some-clause-first : goal.returns-in-Some-clause-first
+returns-in-Some-clause-first c = ⊎_elim inl (λ is. inr ((c.reading_is_spelling.ensures.first c.args.text.now (faults.Trailing c.line.inside.number)).0 is)) (returns-in-Some-clause-exact c)
