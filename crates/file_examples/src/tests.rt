@@ -1,1 +1,3 @@
+mod decks;
 mod particles;
+mod words;
