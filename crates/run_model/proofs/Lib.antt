@@ -2,3 +2,5 @@ pub mod LeastNumbers
 pub mod StateLemmas
 pub mod ParticleLemmas
 pub mod LimitLemmas
+pub mod OnceEach
+pub mod PlaceLemmas
