@@ -4,3 +4,4 @@ pub mod ParticleLemmas
 pub mod LimitLemmas
 pub mod OnceEach
 pub mod PlaceLemmas
+pub mod GridLemmas

@@ -23,11 +23,11 @@ use Rattle.run_model.specs.Run.{WithForces, State, Stop, with_forces, kicked_bod
 
 -- ---- faults that aren't there
 
-none_first : {X : Type 0} (o p : Option X) → first_some o p ≡ None → o ≡ None
+pub none_first : {X : Type 0} (o p : Option X) → first_some o p ≡ None → o ≡ None
 none_first None p e = refl
 none_first (Some x) p e = cc
 
-none_second : {X : Type 0} (o p : Option X) → first_some o p ≡ None → p ≡ None
+pub none_second : {X : Type 0} (o p : Option X) → first_some o p ≡ None → p ≡ None
 none_second None p e = e
 none_second (Some x) p e = cc
 
@@ -101,10 +101,10 @@ moved_one u b h e =
 
 -- ---- all particles of a step
 
-abbrev AreParticles : List WithForces → Type 0
+abbrev pub AreParticles : List WithForces → Type 0
 AreParticles bs = All (λ (b : WithForces). IsParticle b.body) bs
 
-moved-limits : (u : Setup) (bs : List WithForces) → AreParticles bs → All (λ b. move_fault u b ≡ None) bs → All IsParticle (map (moved_body u) bs)
+pub moved-limits : (u : Setup) (bs : List WithForces) → AreParticles bs → All (λ b. move_fault u b ≡ None) bs → All IsParticle (map (moved_body u) bs)
 moved-limits u [] h none = All-nil IsParticle
 moved-limits u (b ∷ bs) h none =
     let P : WithForces → Type 0 = λ c. IsParticle c.body in
@@ -123,7 +123,7 @@ forced-limits f [] h = All-nil (λ (b : WithForces). IsParticle b.body)
 forced-limits f (j ∷ js) h =
     All-cons (λ (b : WithForces). IsParticle b.body) (record { body = j; forces = f j }) _ (All-head IsParticle j js h) (forced-limits f js (All-tail IsParticle j js h))
 
-with_forces-limits : (u : Setup) (built now : List Particle) → All IsParticle now → AreParticles (with_forces u built now)
+pub with_forces-limits : (u : Setup) (built now : List Particle) → All IsParticle now → AreParticles (with_forces u built now)
 with_forces-limits u built now h = forced-limits _ now h
 
 All-placed : {X : Type 0} (P : X → Type 0) (before : X → X → Bool) (x : X) (ys : List X) → P x → All P ys → All P (placed before x ys)
@@ -132,7 +132,7 @@ All-placed P before x (y ∷ ys) p h =
     cond_both (before x y) _ _ (All P) (λ _. All-cons P x (y ∷ ys) p h) (λ _.
     cond_both (before y x) _ _ (All P) (λ _. All-cons P y (placed before x ys) (All-head P y ys h) (All-placed P before x ys p (All-tail P y ys h))) (λ _. h))
 
-All-in_order : {X : Type 0} (P : X → Type 0) (before : X → X → Bool) (xs : List X) → All P xs → All P (in_order_once before xs)
+pub All-in_order : {X : Type 0} (P : X → Type 0) (before : X → X → Bool) (xs : List X) → All P xs → All P (in_order_once before xs)
 All-in_order P before [] h = h
 All-in_order P before (x ∷ xs) h = All-placed P before x (in_order_once before xs) (All-head P x xs h) (All-in_order P before xs (All-tail P x xs h))
 

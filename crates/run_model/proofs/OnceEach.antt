@@ -110,17 +110,20 @@ map_in f (y ∷ ys) x (inr h) = inr (map_in f ys x h)
 -- what has a left inverse keeps elements apart
 pub once_map : {X Y : Type 0} (f : X → Y) (g : Y → X) (xs : List X) → ((x : X) → In x xs → g (f x) ≡ x) → Once xs → Once (map f xs)
 once_map f g [] back o = tt
-once_map {X} f g (x ∷ xs) back o =
-    (λ h. (let found = in_map f xs (f x) h in
-    let same : found.0 ≡ x = sym (back found.0 (inr found.1)) ∙ ap g found.2 ∙ back x (inl refl) in
-    o.0 (subst (λ (z : X). In z xs) same found.1)), once_map f g xs (λ z h. back z (inr h)) o.1)
+once_map {X} f g (x ∷ xs) back o = (
+  λ h. (let found = in_map f xs (f x) h in
+      let same : found.0 ≡ x = sym (back found.0 (inr found.1)) ∙ ap g found.2 ∙ back x (inl refl) in
+      o.0 (subst (λ (z : X). In z xs) same found.1)),
+  once_map f g xs (λ z h. back z (inr h)) o.1,
+)
 
 pub once_from_pairs : {X : Type 0} (R : X → X → Type 0) → ((x : X) → R x x → ⊥) → (xs : List X) → AllPairs R xs → Once xs
 once_from_pairs R irreflexive [] h = tt
-once_from_pairs {X} R irreflexive (x ∷ xs) h =
-    (λ i. (let p = place_of xs x i in
-    irreflexive x (subst (λ (z : X). R x z) p.2 (h 0 (suc p.0) x (omega arith) (let below : p.0 < length xs = p.1 in omega arith)))),
-    once_from_pairs R irreflexive xs (λ i j d less below. h (suc i) (suc j) d (omega arith) (omega arith)))
+once_from_pairs {X} R irreflexive (x ∷ xs) h = (
+  λ i. (let p = place_of xs x i in
+      irreflexive x (subst (λ (z : X). R x z) p.2 (h 0 (suc p.0) x (omega arith) (let below : p.0 < length xs = p.1 in omega arith)))),
+  once_from_pairs R irreflexive xs (λ i j d less below. h (suc i) (suc j) d (omega arith) (omega arith)),
+)
 
 filter_step : {X : Type 0} (test : X → Bool) (x y : X) (ys rest : List X) (b : Bool) → test y ≡ b → (In x rest → In x ys × (test x ≡ true)) → In x (cond b (y ∷ rest) rest) → In x (y ∷ ys) × (test x ≡ true)
 filter_step test x y ys rest true e f (inl same) = (inl same, ap test (sym same) ∙ e)

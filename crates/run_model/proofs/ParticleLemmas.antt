@@ -32,7 +32,7 @@ kicked_ids : (u : Setup) (ds : List WithForces) → map (λ (d : WithForces). d.
 kicked_ids u [] = refl
 kicked_ids u (d ∷ ds) = ap (λ rest. d.body.id ∷ rest) (kicked_ids u ds)
 
-moved_ids : (u : Setup) (bodies : List WithForces) → map (λ (p : Particle). p.id) (map (moved_body u) bodies) ≡ map (λ (d : WithForces). d.body.id) bodies
+pub moved_ids : (u : Setup) (bodies : List WithForces) → map (λ (p : Particle). p.id) (map (moved_body u) bodies) ≡ map (λ (d : WithForces). d.body.id) bodies
 moved_ids u [] = refl
 moved_ids u (d ∷ ds) = ap (λ rest. d.body.id ∷ rest) (moved_ids u ds)
 

@@ -1,9 +1,9 @@
 -- For groups of one particle the boxes of all groups are the places of the particles, whatever the grid.
-use Rattle.std.proofs.Common.{◌≡◌, ℕ, zero, suc, inl, inr, ◌+◌, ◌*◌, ◌-◌, ◌^◌, ◌<◌, ◌≤◌, Bool, true, false, List, [], ◌∷◌, map, length, nat_eq, refl, sym, ◌∙◌, ap, subst, arith}
+use Rattle.std.proofs.Common.{◌≡◌, ℕ, inl, inr, ◌*◌, ◌-◌, ◌^◌, List, [], ◌∷◌, map, length, nat_eq, refl, sym, ◌∙◌, ap, subst, arith}
 use Rattle.std.specs.Prelude.{IsTrue, sum_by, nat_lt}
 use Rattle.std.proofs.lemmas.Bool.Decides.{nat_tests}
-use Rattle.std.specs.List.{All, Contains, filter, flat_map, range_with_len}
-use Rattle.std.proofs.lemmas.Bool.{ltb-true, eqb-true, eq-eqb}
+use Rattle.std.specs.List.{All, flat_map, range_with_len}
+use Rattle.std.proofs.lemmas.Bool.{eqb-true, eq-eqb}
 use Rattle.std.proofs.lemmas.List.Elements.{All-nil, All-cons, All-contains}
 use Rattle.pf_geom.specs.Position.{Position, IsPosition}
 use Rattle.pf_geom.specs.Bounds.{Bounds}
@@ -14,7 +14,7 @@ use Rattle.pf_model.specs.Division.{Division, IsDivision, rank_count}
 use Rattle.pf_model.specs.Domains.{owner, particles_of}
 use Rattle.pf_model.specs.DomainLaws.{OwnersAreRanks}
 use Rattle.pf_model.specs.Group.{particles_in, group_cell, group_cells, group_of, box_of, has_lower_corner}
-use Rattle.pf_model.specs.Groups.{RankGroup, groups_of_rank, all_groups, group_with, group_list}
+use Rattle.pf_model.specs.Groups.{groups_of_rank, all_groups, group_with, group_list}
 use Rattle.pf_model.specs.GroupLaws.{AreGroupCells, GroupCellsAreOrdered, GroupsOfOneAreOnePlace}
 use Rattle.pf_model.specs.Interaction.{list_of}
 use Rattle.run_model.proofs.OnceEach.{In, Once, in_from_contains, contains_from_in, same_sum, in_map, map_in, once_map, once_from_pairs, in_filter, filter_in, in_flat_range, flat_range_in, once_flat_range, sum_map, sum_flat}

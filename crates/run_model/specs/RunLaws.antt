@@ -1,14 +1,17 @@
 -- Laws of runs.
-use Rattle.std.specs.Prelude.{◌≡◌, ℕ, ◌<◌, ◌≤◌, ◌↔◌, List, length, map, Option, Some, None, IsSome, All, Contains, IsPermutation, slice_index_or}
+use Rattle.std.specs.Prelude.{◌≡◌, ℕ, ℤ, ◌<◌, ◌≤◌, ◌↔◌, List, length, map, Option, Some, None, IsSome, All, Contains, IsPermutation, slice_index_or}
+use Rattle.pf_geom.specs.Position.{Position}
 use Rattle.pf_model.specs.declared.entry.Entry.{Entry}
+use Rattle.pf_model.specs.Division.{Division, IsDivision}
 use Rattle.pf_model.specs.Particle.{Particle, IsParticle}
 use Rattle.pf_model.specs.Particles.{HaveDistinctIds, by_id}
 use Rattle.pf_model.specs.Interaction.{members_of}
 use Rattle.pf_model.specs.Group.{box_of}
 use Rattle.pf_model.specs.Groups.{RankGroup, group_list}
+use Rattle.run_model.specs.declared.step_text.BodyLine.{BodyLine}
 use Rattle.run_model.specs.Setup.{Setup}
 use Rattle.run_model.specs.Run.{State, state, first_fault, end_of}
-use Rattle.run_model.specs.Text.{text}
+use Rattle.run_model.specs.Text.{told, text}
 
 -- a run that ends at step e: this step has a fault, the steps before it have states, and it and those after it have none
 pub record EndsAt (u : Setup) (e : ℕ) : Type 0 where
@@ -71,3 +74,23 @@ EachIsInOneEntryOfEachList =
     (u : Setup) (s : ℕ) (now : State) (group : RankGroup) (j : Particle) → state u s ≡ Some now → Contains now.built j →
     let entries = group_list u.theta now.built group in
     (k : ℕ) × (k < length entries) × ((i : ℕ) (e : Entry) → i < length entries → Contains (members_of u.theta (box_of group.members) now.built (slice_index_or entries i e)) j ↔ (i ≡ k))
+
+-- a run whose ranks divide the cube otherwise
+abbrev pub on_grid : Setup → Division → Setup
+on_grid u g = record u { grid = g }
+
+-- what a particle's line tells but for its owner
+abbrev pub but_for_owner : BodyLine → ℕ × Position × List ℤ × List ℤ
+but_for_owner line = (line.id, line.at, line.vel, line.forces)
+
+-- two runs that differ in who owns what alone
+pub record IsSameButForOwners (u v : Setup) : Type 0 where
+  pub states : (s : ℕ) → state u s ≡ state v s
+  pub faults : (s : ℕ) → first_fault u s ≡ first_fault v s
+  pub ends : end_of u ≡ end_of v
+  pub lines : (s : ℕ) (now : State) → map but_for_owner (told u s now).rows ≡ map but_for_owner (told v s now).rows
+
+-- Grid independence: for groups of one particle, grids change owners alone
+abbrev pub GridsChangeOwnersAlone : Type 0
+GridsChangeOwnersAlone =
+    (u : Setup) (g : Division) → IsDivision u.grid → IsDivision g → u.group ≡ 1 → All IsParticle u.particles → IsSameButForOwners u (on_grid u g)

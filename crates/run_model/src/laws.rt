@@ -1,9 +1,12 @@
 // The laws of the definitions, each the contract of a function that does nothing when it runs. A caller
 // whose proof needs a law calls its function.
 
-ghost use Rattle.run_model.specs.RunLaws.{StatesStandBeforeTheEnd, StatesKeepTheParticles, StatesKeepTheLimits, RunsIgnoreTheOrderRead, EachIsInOneEntryOfEachList};
+ghost use Rattle.run_model.specs.RunLaws.{StatesStandBeforeTheEnd, StatesKeepTheParticles, StatesKeepTheLimits, RunsIgnoreTheOrderRead, EachIsInOneEntryOfEachList, GridsChangeOwnersAlone};
 
-use pf_model::{each_is_in_one_entry, orders_by_id_are_one, orders_by_id_have_distinct_ids};
+use pf_model::{
+    each_is_in_one_entry, group_cells_are_ordered, groups_of_one_are_one_place,
+    orders_by_id_are_one, orders_by_id_have_distinct_ids, owners_are_ranks,
+};
 
 /// A state exists exactly for the steps before the end of a run.
 pub fn states_stand_before_the_end()
@@ -33,4 +36,13 @@ pub fn each_is_in_one_entry_of_each_list()
 {
     orders_by_id_have_distinct_ids();
     each_is_in_one_entry();
+}
+
+/// For groups of one particle, the grid changes owners alone.
+pub fn grids_change_owners_alone()
+    ensures { GridsChangeOwnersAlone }
+{
+    groups_of_one_are_one_place();
+    group_cells_are_ordered();
+    owners_are_ranks();
 }
