@@ -47,7 +47,7 @@ least_below-same f g (suc n) same = let here = same n in let rest = least_below-
 
 -- ---- a particle as it was at the build
 
-as_built-in : (built : List Particle) (i : Particle) → In i.id (map (λ (p : Particle). p.id) built) → In (as_built built i) built
+pub as_built-in : (built : List Particle) (i : Particle) → In i.id (map (λ (p : Particle). p.id) built) → In (as_built built i) built
 as_built-in [] i h = absurd h
 as_built-in (b ∷ bs) i h =
     cond_both (nat_eq i.id b.id) (Some b) (find (λ (c : Particle). nat_eq i.id c.id) bs) (λ (o : Option Particle). In (unwrap_or o i) (b ∷ bs)) (λ _. inl refl)

@@ -5,3 +5,4 @@ pub mod LimitLemmas
 pub mod OnceEach
 pub mod PlaceLemmas
 pub mod GridLemmas
+pub mod LoneLemmas

@@ -1,17 +1,18 @@
 -- Laws of runs.
-use Rattle.std.specs.Prelude.{◌≡◌, ℕ, ℤ, ◌<◌, ◌≤◌, ◌↔◌, List, length, map, Option, Some, None, IsSome, All, Contains, IsPermutation, slice_index_or}
+use Rattle.std.specs.Prelude.{◌≡◌, ℕ, ℤ, ◌<◌, ◌≤◌, ◌↔◌, List, [], ◌∷◌, length, map, flat_map, Option, Some, None, IsSome, All, Contains, IsPermutation, slice_index_or}
 use Rattle.pf_geom.specs.Position.{Position}
 use Rattle.pf_model.specs.declared.entry.Entry.{Entry}
-use Rattle.pf_model.specs.Division.{Division, IsDivision}
+use Rattle.pf_model.specs.Division.{Division, IsDivision, rank_count}
+use Rattle.pf_model.specs.Domains.{owner}
 use Rattle.pf_model.specs.Particle.{Particle, IsParticle}
 use Rattle.pf_model.specs.Particles.{HaveDistinctIds, by_id}
-use Rattle.pf_model.specs.Interaction.{members_of}
-use Rattle.pf_model.specs.Group.{box_of}
+use Rattle.pf_model.specs.Interaction.{list_of, members_of}
+use Rattle.pf_model.specs.Group.{particles_in, group_of, box_of, group_cells}
 use Rattle.pf_model.specs.Groups.{RankGroup, group_list}
 use Rattle.run_model.specs.declared.step_text.BodyLine.{BodyLine}
 use Rattle.run_model.specs.Setup.{Setup}
-use Rattle.run_model.specs.Run.{State, state, first_fault, end_of}
-use Rattle.run_model.specs.Text.{told, text}
+use Rattle.run_model.specs.Run.{State, list_for, entry_count, state, first_fault, end_of}
+use Rattle.run_model.specs.Text.{cells_in, particles_within, ranks, rank_counts, told, text}
 
 -- a run that ends at step e: this step has a fault, the steps before it have states, and it and those after it have none
 pub record EndsAt (u : Setup) (e : ℕ) : Type 0 where
@@ -94,3 +95,30 @@ pub record IsSameButForOwners (u v : Setup) : Type 0 where
 abbrev pub GridsChangeOwnersAlone : Type 0
 GridsChangeOwnersAlone =
     (u : Setup) (g : Division) → IsDivision u.grid → IsDivision g → u.group ≡ 1 → All IsParticle u.particles → IsSameButForOwners u (on_grid u g)
+
+-- the list of the group of a particle, where one rank has all particles
+abbrev pub lone_list : Setup → List Particle → Particle → List Entry
+lone_list u js i = list_of u.theta (box_of (group_of u.group js i)) js
+
+-- the lists of all its groups, joined
+abbrev pub lone_lists : Setup → List Particle → List Entry
+lone_lists u js = flat_map (λ c. list_of u.theta (box_of (particles_in c js)) js) (group_cells u.group js)
+
+-- what a build on these particles is, where one rank has them all
+pub record IsLoneBuild (u : Setup) (js : List Particle) : Type 0 where
+  pub ranks : ranks u ≡ 0 ∷ []
+  pub owners : (p : Position) → owner u.grid js p ≡ 0
+  pub lists : (i : Particle) → Contains js i → list_for u js js i ≡ lone_list u js i
+  pub entries : entry_count u js ≡ length (lone_lists u js)
+  pub counts : rank_counts u js 0 ≡ record {
+    particles = length js;
+    groups = length (group_cells u.group js);
+    cells = 0;
+    parts = 0;
+    listcells = cells_in (lone_lists u js);
+    listparts = particles_within (lone_lists u js);
+  }
+
+-- where there is one rank, every build is this
+abbrev pub LoneRanksBuildSo : Type 0
+LoneRanksBuildSo = (u : Setup) (js : List Particle) → IsDivision u.grid → rank_count u.grid ≡ 1 → HaveDistinctIds js → IsLoneBuild u js

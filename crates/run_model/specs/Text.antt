@@ -23,8 +23,8 @@ is_cell_entry (One p) = false
 abbrev pub cells_in : List Entry → ℕ
 cells_in entries = count_by is_cell_entry entries
 
-abbrev pub particles_in : List Entry → ℕ
-particles_in entries = count_by (λ e. not (is_cell_entry e)) entries
+abbrev pub particles_within : List Entry → ℕ
+particles_within entries = count_by (λ e. not (is_cell_entry e)) entries
 
 -- the numbers of the ranks
 abbrev pub ranks : Setup → List ℕ
@@ -44,9 +44,9 @@ rank_counts u built rank = record {
   particles = length (particles_of u.grid built rank);
   groups = length (groups_of_rank u.group u.grid built rank);
   cells = cells_in (received_by u built rank);
-  parts = particles_in (received_by u built rank);
+  parts = particles_within (received_by u built rank);
   listcells = cells_in (lists_of u built rank);
-  listparts = particles_in (lists_of u built rank);
+  listparts = particles_within (lists_of u built rank);
 }
 
 -- a particle with its forces, and its owner at the build

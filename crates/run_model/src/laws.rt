@@ -1,11 +1,12 @@
 // The laws of the definitions, each the contract of a function that does nothing when it runs. A caller
 // whose proof needs a law calls its function.
 
-ghost use Rattle.run_model.specs.RunLaws.{StatesStandBeforeTheEnd, StatesKeepTheParticles, StatesKeepTheLimits, RunsIgnoreTheOrderRead, EachIsInOneEntryOfEachList, GridsChangeOwnersAlone};
+ghost use Rattle.run_model.specs.RunLaws.{StatesStandBeforeTheEnd, StatesKeepTheParticles, StatesKeepTheLimits, RunsIgnoreTheOrderRead, EachIsInOneEntryOfEachList, GridsChangeOwnersAlone, LoneRanksBuildSo};
 
 use pf_model::{
     each_is_in_one_entry, group_cells_are_ordered, groups_of_one_are_one_place,
-    orders_by_id_are_one, orders_by_id_have_distinct_ids, owners_are_ranks,
+    kept_lists_begin_as_lists, lone_ranks_have_all, orders_by_id_are_one,
+    orders_by_id_have_distinct_ids, owners_are_ranks, particles_of_one_id_are_one,
 };
 
 /// A state exists exactly for the steps before the end of a run.
@@ -45,4 +46,13 @@ pub fn grids_change_owners_alone()
     groups_of_one_are_one_place();
     group_cells_are_ordered();
     owners_are_ranks();
+}
+
+/// Where there is one rank, it has all particles and receives nothing, and each list is over all of them.
+pub fn lone_ranks_build_so()
+    ensures { LoneRanksBuildSo }
+{
+    lone_ranks_have_all();
+    kept_lists_begin_as_lists();
+    particles_of_one_id_are_one();
 }
