@@ -13,4 +13,5 @@ OrdersByIdHaveDistinctIds = (js : List Particle) → HaveDistinctIds (by_id js)
 
 -- and it has the same particles
 abbrev pub OrdersByIdKeepParticles : Type 0
-OrdersByIdKeepParticles = (js : List Particle) (p : Particle) → HaveDistinctIds js → Contains (by_id js) p ↔ Contains js p
+OrdersByIdKeepParticles =
+    (js : List Particle) (p : Particle) → HaveDistinctIds js → Contains (by_id js) p ↔ Contains js p

@@ -47,7 +47,9 @@ received Periodic i = record i { at = record { x = 2 ^ 29; y = 2 ^ 29; z = 2 ^ 2
 -- and an item, by the position x of the particle
 abbrev pub exerted : Edge → Position → Source → Source
 exerted Open x item = item
-exerted Periodic x item = record item { at = record { x = seen_from x.x item.at.x; y = seen_from x.y item.at.y; z = seen_from x.z item.at.z } }
+exerted Periodic x item = record item {
+  at = record { x = seen_from x.x item.at.x; y = seen_from x.y item.at.y; z = seen_from x.z item.at.z };
+}
 
 -- what the entry gives the particle by the kernel, or the first fault
 abbrev pub pair_with : Edge → Kernel → Particle → Entry → OrPairStop (List (Option Value))
@@ -84,7 +86,8 @@ axes_of Vec3 = 0 ∷ 1 ∷ 2 ∷ []
 abbrev pub force_over : Kernel → List (OrPairStop (List (Option Value))) → ForceVar → List ℤ
 force_over kernel pairs v =
     let values = flat_map (contributions kernel v) pairs in
-    map (λ axis. combined v.combine (map (λ value. slice_index_or (components value) axis (pos 0)) values)) (axes_of v.kind)
+    map (λ axis. combined v.combine (map (λ value. slice_index_or (components value) axis (pos 0)) values))
+    (axes_of v.kind)
 
 -- Force: the numbers of all FORCE variables, in order of declaration
 unfoldable pub force_row : Edge → Kernel → List Entry → Particle → List ℤ
@@ -99,13 +102,15 @@ pair_fault (Ok given) = None
 
 -- the FORCE variable of this number has a component that isn't an i64
 abbrev pub sum_fault : Kernel → List (OrPairStop (List (Option Value))) → ℕ × ForceVar → Option What
-sum_fault kernel pairs numbered = if list_all is_i64 (force_over kernel pairs numbered.1) then None else Some (what.Sum numbered.0)
+sum_fault kernel pairs numbered =
+    if list_all is_i64 (force_over kernel pairs numbered.1) then None else Some (what.Sum numbered.0)
 
 -- the first pair that faults, by list place; where none does, the first FORCE variable whose sum isn't an i64
 unfoldable pub force_fault : Edge → Kernel → List Entry → Particle → Option What
 force_fault edge kernel entries i =
     let pairs = pairs_of edge kernel entries i in
-    first_some (first_given pair_fault pairs) (first_given (sum_fault kernel pairs) (enumerate_from 1 (forces_of kernel.decls)))
+    first_some (first_given pair_fault pairs)
+    (first_given (sum_fault kernel pairs) (enumerate_from 1 (forces_of kernel.decls)))
 
 -- ---- the acceleration
 

@@ -41,7 +41,8 @@ list_for u built now i = kept_group_list u.theta built now (group_with u.group u
 
 -- the particles with their forces
 abbrev pub with_forces : Setup → List Particle → List Particle → List WithForces
-with_forces u built now = map (λ i. record { body = i; forces = force_row u.theta.edge u.kernel (list_for u built now i) i }) now
+with_forces u built now =
+    map (λ i. record { body = i; forces = force_row u.theta.edge u.kernel (list_for u built now i) i }) now
 
 -- ---- the moves of a step
 
@@ -76,7 +77,8 @@ state_at_start u =
     let read = by_id u.particles in
     record { bodies = with_forces u read read; built = read }
 
--- state(s) after state(s - 1), where it has no fault: half a kick, a drift, a build where it is due, forces, half a kick
+-- state(s) after state(s - 1), where it has no fault: half a kick, a drift, a build where it is due, forces, and
+-- half a kick
 abbrev pub state_after : Setup → ℕ → State → State
 state_after u s before =
     let built = built_at u s before in
@@ -89,11 +91,13 @@ numeric id what = Numeric (record { id = id; what = what })
 
 -- by the half kick on x, y and z
 abbrev pub kick_fault : Setup → WithForces → Option Stop
-kick_fault u b = option_map (λ axis. numeric b.body.id (Fast axis)) (fast_axis u.dt (acceleration u.kernel b.forces) b.body)
+kick_fault u b =
+    option_map (λ axis. numeric b.body.id (Fast axis)) (fast_axis u.dt (acceleration u.kernel b.forces) b.body)
 
 -- by the drift after it on x, y and z
 abbrev pub drift_fault : Setup → WithForces → Option Stop
-drift_fault u b = option_map (λ axis. numeric b.body.id (Escaped axis)) (escape_axis u.theta.edge u.dt (kicked_body u b))
+drift_fault u b =
+    option_map (λ axis. numeric b.body.id (Escaped axis)) (escape_axis u.theta.edge u.dt (kicked_body u b))
 
 -- by the half kick, and then by the drift
 abbrev pub move_fault : Setup → WithForces → Option Stop
@@ -117,8 +121,8 @@ fault_at_start u =
     let read = by_id u.particles in
     first_some (lists_fault u read) (first_given (forces_fault u read read) read)
 
--- the first fault of step s after state(s - 1): by id the first moves; at a build the lists; by id the forces; by id the
--- second half kick
+-- the first fault of step s after state(s - 1): by id the first moves; at a build the lists; by id the forces; by
+-- id the second half kick
 abbrev pub fault_after : Setup → ℕ → State → Option Stop
 fault_after u s before =
     let built = built_at u s before in
@@ -138,7 +142,8 @@ unless_stopped (Some stop) x = None
 -- state(s), if there is one
 unfoldable pub state : Setup → ℕ → Option State
 state u zero = unless_stopped (fault_at_start u) (state_at_start u)
-state u (suc s) = option_and_then (λ before. unless_stopped (fault_after u (suc s) before) (state_after u (suc s) before)) (state u s)
+state u (suc s) =
+    option_and_then (λ before. unless_stopped (fault_after u (suc s) before) (state_after u (suc s) before)) (state u s)
 
 -- first(s), if step s has a state before it and a fault
 unfoldable pub first_fault : Setup → ℕ → Option Stop

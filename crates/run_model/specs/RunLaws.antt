@@ -14,7 +14,8 @@ use Rattle.run_model.specs.Setup.{Setup}
 use Rattle.run_model.specs.Run.{State, list_for, entry_count, state, first_fault, end_of}
 use Rattle.run_model.specs.Text.{cells_in, particles_within, ranks, rank_counts, told, text}
 
--- a run that ends at step e: this step has a fault, the steps before it have states, and it and those after it have none
+-- a run that ends at step e: this step has a fault, the steps before it have states, and it and those after it
+-- have none
 pub record EndsAt (u : Setup) (e : ℕ) : Type 0 where
   pub within : e ≤ u.steps
   pub fault : IsSome (first_fault u e)
@@ -53,7 +54,8 @@ pub record KeepsLimits (now : State) : Type 0 where
   pub built : All IsParticle now.built
 
 abbrev pub StatesKeepTheLimits : Type 0
-StatesKeepTheLimits = (u : Setup) (s : ℕ) (now : State) → All IsParticle u.particles → state u s ≡ Some now → KeepsLimits now
+StatesKeepTheLimits =
+    (u : Setup) (s : ℕ) (now : State) → All IsParticle u.particles → state u s ≡ Some now → KeepsLimits now
 
 -- a run whose particles were read in another order
 abbrev pub with_particles : Setup → List Particle → Setup
@@ -67,14 +69,16 @@ pub record IsSameRun (u v : Setup) : Type 0 where
 
 abbrev pub RunsIgnoreTheOrderRead : Type 0
 RunsIgnoreTheOrderRead =
-    (u : Setup) (js : List Particle) → HaveDistinctIds u.particles → IsPermutation u.particles js → IsSameRun u (with_particles u js)
+    (u : Setup) (js : List Particle) → HaveDistinctIds u.particles → IsPermutation u.particles js →
+    IsSameRun u (with_particles u js)
 
 -- of the entries of a group's list at the last build, exactly one has the particle as a member
 abbrev pub EachIsInOneEntryOfEachList : Type 0
 EachIsInOneEntryOfEachList =
     (u : Setup) (s : ℕ) (now : State) (group : RankGroup) (j : Particle) → state u s ≡ Some now → Contains now.built j →
     let entries = group_list u.theta now.built group in
-    (k : ℕ) × (k < length entries) × ((i : ℕ) (e : Entry) → i < length entries → Contains (members_of u.theta (box_of group.members) now.built (slice_index_or entries i e)) j ↔ (i ≡ k))
+    (k : ℕ) × (k < length entries) × ((i : ℕ) (e : Entry) → i < length entries →
+    Contains (members_of u.theta (box_of group.members) now.built (slice_index_or entries i e)) j ↔ (i ≡ k))
 
 -- a run whose ranks divide the cube otherwise
 abbrev pub on_grid : Setup → Division → Setup
@@ -94,7 +98,8 @@ pub record IsSameButForOwners (u v : Setup) : Type 0 where
 -- Grid independence: for groups of one particle, grids change owners alone
 abbrev pub GridsChangeOwnersAlone : Type 0
 GridsChangeOwnersAlone =
-    (u : Setup) (g : Division) → IsDivision u.grid → IsDivision g → u.group ≡ 1 → All IsParticle u.particles → IsSameButForOwners u (on_grid u g)
+    (u : Setup) (g : Division) → IsDivision u.grid → IsDivision g → u.group ≡ 1 → All IsParticle u.particles →
+    IsSameButForOwners u (on_grid u g)
 
 -- the list of the group of a particle, where one rank has all particles
 abbrev pub lone_list : Setup → List Particle → Particle → List Entry
@@ -121,4 +126,5 @@ pub record IsLoneBuild (u : Setup) (js : List Particle) : Type 0 where
 
 -- where there is one rank, every build is this
 abbrev pub LoneRanksBuildSo : Type 0
-LoneRanksBuildSo = (u : Setup) (js : List Particle) → IsDivision u.grid → rank_count u.grid ≡ 1 → HaveDistinctIds js → IsLoneBuild u js
+LoneRanksBuildSo =
+    (u : Setup) (js : List Particle) → IsDivision u.grid → rank_count u.grid ≡ 1 → HaveDistinctIds js → IsLoneBuild u js

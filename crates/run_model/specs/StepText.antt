@@ -8,13 +8,16 @@ use Rattle.run_model.specs.declared.step_text.BodyLine.{BodyLine}
 
 -- the step, and how many particles and ranks there are
 unfoldable pub step_line : StepText → List ℕ
-step_line s = codes "step " ++ decimal s.step ++ codes " particles " ++ decimal (length s.rows) ++ codes " ranks " ++ decimal (length s.ranks) ++ codes "\n"
+step_line s =
+    codes "step " ++ decimal s.step ++ codes " particles " ++ decimal (length s.rows)
+    ++ codes " ranks " ++ decimal (length s.ranks) ++ codes "\n"
 
 -- the counts of the rank of this number
 unfoldable pub rank_line : ℕ → RankLine → List ℕ
 rank_line rank r =
-    codes "rank " ++ decimal rank ++ codes " particles " ++ decimal r.particles ++ codes " groups " ++ decimal r.groups ++ codes " cells " ++ decimal r.cells
-    ++ codes " parts " ++ decimal r.parts ++ codes " listcells " ++ decimal r.listcells ++ codes " listparts " ++ decimal r.listparts ++ codes "\n"
+    codes "rank " ++ decimal rank ++ codes " particles " ++ decimal r.particles ++ codes " groups " ++ decimal r.groups
+    ++ codes " cells " ++ decimal r.cells ++ codes " parts " ++ decimal r.parts
+    ++ codes " listcells " ++ decimal r.listcells ++ codes " listparts " ++ decimal r.listparts ++ codes "\n"
 
 -- a number after a blank
 abbrev pub after_blank : ℤ → List ℕ
@@ -23,7 +26,9 @@ after_blank z = 32 ∷ signed_decimal z
 -- the id and the owner of a particle, its position, its velocity and its forces
 unfoldable pub body_line : BodyLine → List ℕ
 body_line b =
-    codes "p" ++ flat_map after_blank ((pos b.id ∷ pos b.owner ∷ pos b.at.x ∷ pos b.at.y ∷ pos b.at.z ∷ []) ++ b.vel ++ b.forces) ++ codes "\n"
+    codes "p"
+    ++ flat_map after_blank ((pos b.id ∷ pos b.owner ∷ pos b.at.x ∷ pos b.at.y ∷ pos b.at.z ∷ []) ++ b.vel ++ b.forces)
+    ++ codes "\n"
 
 -- the line of the step, one for each rank from 0, and one for each particle
 abbrev pub step_text : StepText → List ℕ

@@ -32,7 +32,8 @@ ranks u = range_with_len 0 (rank_count u.grid)
 
 -- what a rank received at the build: the essential trees of all other ranks
 abbrev pub received_by : Setup → List Particle → ℕ → List Entry
-received_by u built rank = flat_map (λ src. if nat_eq src rank then [] else essential_tree u.theta u.grid built src rank) (ranks u)
+received_by u built rank =
+    flat_map (λ src. if nat_eq src rank then [] else essential_tree u.theta u.grid built src rank) (ranks u)
 
 -- the lists of its groups
 abbrev pub lists_of : Setup → List Particle → ℕ → List Entry
