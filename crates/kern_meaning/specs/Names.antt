@@ -67,7 +67,8 @@ fits kind scale of = same_kind (kind_of of) kind && fits_scale (scale_of of) sca
 -- a variable of this kind and scale of a field, by who has it and by its components
 abbrev pub variable_value : Kind → ℕ → (Field → Bool) → (Field → List ℤ) → Option Field → Option Value
 variable_value kind scale has parts None = None
-variable_value kind scale has parts (Some of) = if has of && fits kind scale of then Some (value_of_kind kind scale (along_each_axis (parts of))) else None
+variable_value kind scale has parts (Some of) =
+    if has of && fits kind scale of then Some (value_of_kind kind scale (along_each_axis (parts of))) else None
 
 -- ---- names
 
@@ -77,8 +78,10 @@ Known = List ℕ → Option Value
 
 -- a FORCE variable has no value
 abbrev pub declared_value : Particle → Source → DeclKind → Option Value
-declared_value i j (declared_as.Epi kind scale field) = variable_value kind scale particle_has (λ of. field_of_particle of i) (field_named field)
-declared_value i j (declared_as.Epj kind scale field) = variable_value kind scale source_has (λ of. field_of_source of j) (field_named field)
+declared_value i j (declared_as.Epi kind scale field) =
+    variable_value kind scale particle_has (λ of. field_of_particle of i) (field_named field)
+declared_value i j (declared_as.Epj kind scale field) =
+    variable_value kind scale source_has (λ of. field_of_source of j) (field_named field)
 declared_value i j (declared_as.Param scale mantissa) = Some (values.Num mantissa scale)
 declared_value i j (declared_as.Force kind scale combine) = None
 

@@ -48,7 +48,8 @@ pair_kind coincident numeric.NegativeRoot = kinds.NegativeRoot
 -- what stops the own expression of the statement of this number stops the pair
 abbrev pub pair_stop : Bool → ℕ → Stop → PairStop
 pair_stop coincident n stops.NoResult = pair_stops.NoResult
-pair_stop coincident n (stops.Fault fault) = pair_stops.Fault (record { kind = pair_kind coincident fault; statement = n })
+pair_stop coincident n (stops.Fault fault) =
+    pair_stops.Fault (record { kind = pair_kind coincident fault; statement = n })
 
 abbrev pub at_statement : {A : Type 0} → Bool → ℕ → OrStop A → OrPairStop A
 at_statement coincident n (Ok value) = Ok value
@@ -77,7 +78,8 @@ block_of [] = record { count = 0; slots = 0; run = λ n slot state. Ok state }
 block_of (first ∷ others) = record {
   count = first.count + (block_of others).count;
   slots = first.slots + (block_of others).slots;
-  run = λ n slot state. first.run n slot state >>= (λ next. (block_of others).run (n + first.count) (slot + first.slots) next);
+  run = λ n slot state.
+      first.run n slot state >>= (λ next. (block_of others).run (n + first.count) (slot + first.slots) next);
 }
 
 abbrev pub declared_force : DeclKind → Option ExprType

@@ -18,18 +18,23 @@ pub use Rattle.kern_meaning.specs.Values.{value_of_kind}
 -- a variable of this kind and scale of a field, by who has it
 abbrev pub resolved_field : (Field → Kind → ℕ → Variable) → Kind → ℕ → (Field → Bool) → Option Field → Variable
 resolved_field make kind scale has None = variables.Nothing
-resolved_field make kind scale has (Some of) = if has of && fits kind scale of then make of kind scale else variables.Nothing
+resolved_field make kind scale has (Some of) =
+    if has of && fits kind scale of then make of kind scale else variables.Nothing
 
 abbrev pub resolved : DeclKind → Variable
-resolved (declared_as.Epi kind scale field) = resolved_field (λ of k s. variables.Particle of k s) kind scale particle_has (field_named field)
-resolved (declared_as.Epj kind scale field) = resolved_field (λ of k s. variables.Item of k s) kind scale source_has (field_named field)
+resolved (declared_as.Epi kind scale field) =
+    resolved_field (λ of k s. variables.Particle of k s) kind scale particle_has (field_named field)
+resolved (declared_as.Epj kind scale field) =
+    resolved_field (λ of k s. variables.Item of k s) kind scale source_has (field_named field)
 resolved (declared_as.Param scale mantissa) = variables.Constant mantissa scale
 resolved (declared_as.Force kind scale combine) = variables.Nothing
 
 -- the value of what a declaration is resolved to
 abbrev pub value_of_variable : Particle → Source → Variable → Option Value
-value_of_variable i j (variables.Particle of kind scale) = Some (value_of_kind kind scale (along_each_axis (field_of_particle of i)))
-value_of_variable i j (variables.Item of kind scale) = Some (value_of_kind kind scale (along_each_axis (field_of_source of j)))
+value_of_variable i j (variables.Particle of kind scale) =
+    Some (value_of_kind kind scale (along_each_axis (field_of_particle of i)))
+value_of_variable i j (variables.Item of kind scale) =
+    Some (value_of_kind kind scale (along_each_axis (field_of_source of j)))
 value_of_variable i j (variables.Constant mantissa scale) = Some (values.Num mantissa scale)
 value_of_variable i j variables.Nothing = None
 

@@ -65,5 +65,8 @@ pub record HavePlaces (names : List (List ℕ)) (values : List (Option Value)) (
 abbrev pub Runs : Result (ℕ × ℕ) PairStop → Statements → ℕ → ℕ → State → State → Type 0
 Runs result meaning n slot before after =
     MatchResult result
-    (λ reached. (meaning.run n slot before ≡ Ok after) × (reached.0 ≡ n + meaning.count) × (reached.1 ≡ slot + meaning.slots))
+    (λ reached.
+    (meaning.run n slot before ≡ Ok after)
+    × (reached.0 ≡ n + meaning.count)
+    × (reached.1 ≡ slot + meaning.slots))
     (λ stop. meaning.run n slot before ≡ Err stop)

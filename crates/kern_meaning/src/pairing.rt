@@ -9,9 +9,8 @@ use crate::laws::typed_kernels_have_one_pair;
 use crate::statement::Walk;
 use crate::variable::{Variable, variable_value};
 use crate::{PairFault, PairStop, Scratch, Value};
-use kern_tree::{Kernel, parsed_kernels_keep_limits};
 use kern_token::Name;
-
+use kern_tree::{Kernel, parsed_kernels_keep_limits};
 use kern_types::{Typed, kernel};
 use pf_geom::Point;
 use pf_model::{Body, Item};
@@ -58,8 +57,11 @@ fn run(
     slots: &mut [Option<Value>],
 ) -> Result<(), PairStop>
     requires parsed { IsParsed k.now }
-    requires made { IsMadeFor k.now (record { names = names.now; variables = variables.now; values = values.old; given = slots.old }) }
-    ensures { MatchResult result (λ _. rules.pair_of k.now i.now j.now ≡ Ok slots.new) (λ stop. rules.pair_of k.now i.now j.now ≡ Err stop) }
+    requires made { IsMadeFor k.now
+        (record { names = names.now; variables = variables.now; values = values.old; given = slots.old }) }
+    ensures { MatchResult result
+        (λ _. rules.pair_of k.now i.now j.now ≡ Ok slots.new)
+        (λ stop. rules.pair_of k.now i.now j.now ≡ Err stop) }
 {
     parsed_kernels_keep_limits();
     start(variables, i, j, values);
@@ -75,7 +77,8 @@ fn run(
 
 // The values of names at the start of a pair.
 fn start(variables: &[Variable], i: &Body, j: &Item, values: &mut [Option<Value>])
-    ensures { (k : ℕ) → k < length values.old → slice_index_or values.new k None ≡ started_at i.now j.now variables.now k }
+    ensures { (k : ℕ) → k < length values.old
+        → slice_index_or values.new k None ≡ started_at i.now j.now variables.now k }
 {
     for k in 0..values.len() {
         values[k] = started(variables, k, i, j);

@@ -21,5 +21,10 @@ impl Model for Scratch {
 
     ghost Value = { Prepared };
 
-    ghost view = { λ s. record { names = s.names.items; variables = s.variables.items; values = s.values.items; given = s.slots.items } };
+    ghost view = { λ s. record {
+      names = s.names.items;
+      variables = s.variables.items;
+      values = s.values.items;
+      given = s.slots.items;
+    } };
 }

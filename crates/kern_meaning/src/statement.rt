@@ -31,8 +31,10 @@ impl Walk<'_> {
         values: &mut [Option<Value>],
         slots: &mut [Option<Value>],
     ) -> Result<(u32, u32), PairStop>
-        requires numbers { first + (rules.block_meaning self.now.decls.now self.now.coincident block.now).count < 2 ^ 32 }
-        requires slots { before + (rules.block_meaning self.now.decls.now self.now.coincident block.now).slots < 2 ^ 32 }
+        requires numbers { first
+            + (rules.block_meaning self.now.decls.now self.now.coincident block.now).count < 2 ^ 32 }
+        requires slots { before
+            + (rules.block_meaning self.now.decls.now self.now.coincident block.now).slots < 2 ^ 32 }
         requires places { HavePlaces self.now.names.now values.old (assigned_in block.now) }
         ensures { Runs result (rules.block_meaning self.now.decls.now self.now.coincident block.now) first before
             (state self.now.names.now values.old slots.old) (state self.now.names.now values.new slots.new) }
@@ -56,8 +58,10 @@ impl Walk<'_> {
         values: &mut [Option<Value>],
         slots: &mut [Option<Value>],
     ) -> Result<(u32, u32), PairStop>
-        requires numbers { number + (rules.act_meaning self.now.decls.now self.now.coincident act.now).count < 2 ^ 32 }
-        requires slots { slot + (rules.act_meaning self.now.decls.now self.now.coincident act.now).slots < 2 ^ 32 }
+        requires numbers { number
+            + (rules.act_meaning self.now.decls.now self.now.coincident act.now).count < 2 ^ 32 }
+        requires slots { slot
+            + (rules.act_meaning self.now.decls.now self.now.coincident act.now).slots < 2 ^ 32 }
         requires places { HavePlaces self.now.names.now values.old (assigned_by act.now) }
         ensures { Runs result (rules.act_meaning self.now.decls.now self.now.coincident act.now) number slot
             (state self.now.names.now values.old slots.old) (state self.now.names.now values.new slots.new) }
@@ -92,10 +96,14 @@ impl Walk<'_> {
     // The next number and the count of `+=`, after statements that aren't run.
     #[cycle(skipped)]
     fn past(&self, block: &[Stmt], first: u32, before: u32) -> (u32, u32)
-        requires numbers { first + (rules.block_meaning self.now.decls.now self.now.coincident block.now).count < 2 ^ 32 }
-        requires slots { before + (rules.block_meaning self.now.decls.now self.now.coincident block.now).slots < 2 ^ 32 }
-        ensures number { result.0 ≡ first + (rules.block_meaning self.now.decls.now self.now.coincident block.now).count }
-        ensures slot { result.1 ≡ before + (rules.block_meaning self.now.decls.now self.now.coincident block.now).slots }
+        requires numbers { first
+            + (rules.block_meaning self.now.decls.now self.now.coincident block.now).count < 2 ^ 32 }
+        requires slots { before
+            + (rules.block_meaning self.now.decls.now self.now.coincident block.now).slots < 2 ^ 32 }
+        ensures number { result.0
+            ≡ first + (rules.block_meaning self.now.decls.now self.now.coincident block.now).count }
+        ensures slot { result.1
+            ≡ before + (rules.block_meaning self.now.decls.now self.now.coincident block.now).slots }
     {
         let mut number = first;
         let mut slot = before;
@@ -109,10 +117,14 @@ impl Walk<'_> {
 
     #[cycle(skipped)]
     fn past_act(&self, act: &Act, number: u32, slot: u32) -> (u32, u32)
-        requires numbers { number + (rules.act_meaning self.now.decls.now self.now.coincident act.now).count < 2 ^ 32 }
-        requires slots { slot + (rules.act_meaning self.now.decls.now self.now.coincident act.now).slots < 2 ^ 32 }
-        ensures number { result.0 ≡ number + (rules.act_meaning self.now.decls.now self.now.coincident act.now).count }
-        ensures slot { result.1 ≡ slot + (rules.act_meaning self.now.decls.now self.now.coincident act.now).slots }
+        requires numbers { number
+            + (rules.act_meaning self.now.decls.now self.now.coincident act.now).count < 2 ^ 32 }
+        requires slots { slot
+            + (rules.act_meaning self.now.decls.now self.now.coincident act.now).slots < 2 ^ 32 }
+        ensures number { result.0
+            ≡ number + (rules.act_meaning self.now.decls.now self.now.coincident act.now).count }
+        ensures slot { result.1
+            ≡ slot + (rules.act_meaning self.now.decls.now self.now.coincident act.now).slots }
     {
         match act {
             Act::Set(_, _) => (number + 1, slot),
