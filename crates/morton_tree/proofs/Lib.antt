@@ -2,6 +2,5 @@ pub mod SplitLemmas
 pub mod TreeLemmas
 pub mod SpanLemmas
 pub mod ChildLemmas
-pub mod LevelLemmas
 pub mod GroupLemmas
 pub mod CellsInOrder

@@ -7,7 +7,7 @@ ghost use Rattle.morton_tree.specs.Groups.{group_in, groups_of, IsGroup};
 use crate::group::Group;
 use crate::tree::Tree;
 use pf_geom::{Cell, DEEPEST, Point, cell_of};
-use pf_model::{Body, MOST_GROUP, box_of};
+use pf_model::{Body, MOST_GROUP, box_of, group_levels_are_least, positions_share_their_group};
 use pf_num::OutOfMemory;
 use std::alloc::Global;
 
@@ -25,6 +25,7 @@ impl Tree {
         ensures each { IfOk result (λ groups. All (IsGroup limit self.now.built) groups.items) }
         ensures few { IfOk result (λ groups. length groups.items ≤ length self.now.built) }
     {
+        positions_share_their_group();
         let bodies = self.bodies();
         let mut groups = Vec::new(alloc);
         let mut place = 0;
@@ -58,6 +59,7 @@ impl Tree {
     fn group_cell(&self, limit: u32, p: Point) -> Cell
         ensures { result ≡ group_cell limit self.now.built p }
     {
+        group_levels_are_least();
         for level in 0..DEEPEST {
             let cell = cell_of(p, level);
             if self.node(cell).len <= limit {

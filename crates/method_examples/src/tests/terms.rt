@@ -1,8 +1,9 @@
 ghost use Rattle.std.specs.Prelude.{◌≡◌, length};
+ghost use Rattle.pf_model.specs.Particles.{AreBodies};
 
 use super::bodies::two_close_and_one_far;
 use pf_geom::Edge;
-use pf_model::{Build, Grid, Terms, Theta};
+use pf_model::{Body, Build, Grid, Terms, Theta};
 use std::marker::Brand;
 
 // How many particles there are, in the terms T.
@@ -13,16 +14,17 @@ fn count_in<T: Terms>(build: Build<'_>) -> usize
     build.bodies.len()
 }
 
-// The caller that has values alone names terms by them.
-fn count(build: Build<'_>) -> usize
-    ensures { result ≡ length build.entry.bodies.now }
+// A caller that has values alone names terms by them.
+fn count(bodies: &[Body], grid: Grid, theta: Theta) -> usize
+    requires { AreBodies bodies.now }
+    ensures { result ≡ length bodies.now }
 {
+    let build = Build::of(bodies, grid, theta);
     count_in::<Brand>(build)
 }
 
 #[test]
 fn terms_are_named_at_run_time(rt: HostRuntime) {
-    let bodies = two_close_and_one_far();
     let grid = Grid {
         nx: 2,
         ny: 1,
@@ -33,7 +35,6 @@ fn terms_are_named_at_run_time(rt: HostRuntime) {
         b: 2,
         edge: Edge::Open,
     };
-    let build = Build::of(&bodies, grid, theta);
-    assert_eq!(rt; count(build), 3);
-    assert_eq!(rt; build.grid, grid);
+    let bodies = two_close_and_one_far();
+    assert_eq!(rt; count(&bodies, grid, theta), 3);
 }

@@ -22,13 +22,13 @@ here c = ap (λ (js : List Particle). get_or js c.loop-place.place c.index-bodie
 
 pub loop-place-smaller : goal.loop-place-smaller
 loop-place-smaller c =
-    let some = some_in_group c.args.limit c.args.self.now.built c.loop-place.place c.index-bodies-place.result c.group_at-group.result c.bodies-bodies.ensures.tree.ordered (inside c) (here c) c.group_at-group.ensures in
+    let some = some_in_group c.positions_share_their_group.ensures c.args.limit c.args.self.now.built c.loop-place.place c.index-bodies-place.result c.group_at-group.result c.bodies-bodies.ensures.tree.ordered (inside c) (here c) c.group_at-group.ensures in
     let within = c.loop-place-test.true in
     omega arith
 
 pub loop-place-preserved : goal.loop-place-preserved
 loop-place-preserved c =
-    group_more c.args.limit c.args.self.now.built c.loop-place.place c.loop-place.groups.items c.push.new.self.items c.index-bodies-place.result c.group_at-group.result
+    group_more c.positions_share_their_group.ensures c.args.limit c.args.self.now.built c.loop-place.place c.loop-place.groups.items c.push.new.self.items c.index-bodies-place.result c.group_at-group.result
     c.bodies-bodies.ensures.tree.ordered (inside c) (here c) c.loop-place.invariant c.group_at-group.ensures c.in_ok-push.ensures.items
 
 pub returns : goal.returns
