@@ -94,7 +94,10 @@ fn numbers_are_printed_in_canonical_decimals(rt: HostRuntime) -> Result<(), Fail
 #[test]
 fn a_line_that_is_cut_lacks_its_next_column(rt: HostRuntime) -> Result<(), Fail> {
     let text = "particles 1\ncount 2\n1 0 0 0 0 0 0 1 0 0 0 0\n2 3 4 0 0 0 0";
-    assert_eq!(rt; fault_of(rt.alloc(), text.as_bytes())?, Some(PartFault::Field(4, 8)));
+    assert_eq!(rt;
+        fault_of(rt.alloc(), text.as_bytes())?,
+        Some(PartFault::Field(4, 8))
+    );
     Ok(())
 }
 
@@ -180,7 +183,11 @@ fn each_text_has_its_first_fault(rt: HostRuntime) -> Result<(), Fail> {
             PartFault::Field(4, 13),
         ),
     ] {
-        assert_eq!(rt; fault_of(rt.alloc(), text.as_bytes())?, Some(fault), "{text}");
+        assert_eq!(rt;
+            fault_of(rt.alloc(), text.as_bytes())?,
+            Some(fault),
+            "{text}"
+        );
     }
     Ok(())
 }
@@ -219,7 +226,10 @@ fn as_many_particles_as_there_may_be_are_read(rt: HostRuntime) -> Result<(), Fai
     }
     assert_eq!(rt; fault_of(rt.alloc(), text.as_bytes())?, None);
     text.push_str("# and no more\n0 0 0 0 0 0 0 1 0 0 0 0\n")?;
-    assert_eq!(rt; fault_of(rt.alloc(), text.as_bytes())?, Some(PartFault::Trailing(65_540)));
+    assert_eq!(rt;
+        fault_of(rt.alloc(), text.as_bytes())?,
+        Some(PartFault::Trailing(65_540))
+    );
     Ok(())
 }
 
