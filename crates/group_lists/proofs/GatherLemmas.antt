@@ -17,31 +17,13 @@ use Rattle.pf_model.specs.Domains.{particles_of}
 use Rattle.pf_model.specs.Order.{placed, in_order_once}
 use Rattle.pf_model.specs.Sums.{moment_of}
 use Rattle.pf_model.specs.Interaction.{level_of, is_cell_at, leads_to_cell, entry_at, entry_of, comes_before, list_of}
-use Rattle.pf_model.specs.ListLaws.{ListsHoldTheirEntries}
+use Rattle.pf_model.specs.ListLaws.{ListsHoldTheirEntries, ListsAreShort}
 use Rattle.pf_model.specs.ListLaws.{ListsIgnoreOrder}
 use Rattle.pf_model.specs.DomainLaws.{OneRankHasItsOwn, AllRanksHaveAll}
 use Rattle.morton_tree.specs.declared.group.Group.{Group}
 use Rattle.group_lists.specs.declared.listed.Listed.{Listed}
 use Rattle.group_lists.specs.Gathering.{Gathering, own_gathering, partial_list, IsWhole, IsGroupOf, IsGathered}
 use Rattle.group_lists.specs.Whole.{HasMembers, IsListed}
-
-length-placed : {X : Type 0} (before : X → X → Bool) (x : X) (ys : List X) → length (placed before x ys) ≤ suc (length ys)
-length-placed before x [] = omega arith
-length-placed {X} before x (y ∷ ys) =
-    let P : List X → Type 0 = λ l. length l ≤ suc (suc (length ys)) in
-    cond_both (before x y) _ _ P (λ _. omega arith) (λ _. cond_both (before y x) _ _ P (λ _. let rest = length-placed before x ys in omega arith) (λ _. omega arith))
-
-pub length-in_order : {X : Type 0} (before : X → X → Bool) (xs : List X) → length (in_order_once before xs) ≤ length xs
-length-in_order before [] = omega arith
-length-in_order before (x ∷ xs) = let more = length-placed before x (in_order_once before xs) in let rest = length-in_order before xs in omega arith
-
--- a list over particles has no more entries than there are particles
-pub length-list_of : (t : Criterion) (box : Bounds) (js : List Particle) → length (list_of t box js) ≤ length js
-unfolding list_of
-length-list_of t box js =
-    let long = length-in_order comes_before (map (entry_of t box js) js) in
-    let same = length-map js (entry_of t box js) in
-    omega arith
 
 some_kept : {X : Type 0} (test : X → Bool) (xs : List X) (x : X) → Contains xs x → test x ≡ true → 1 ≤ length (filter test xs)
 some_kept test [] x h e = absurd (omega (arith, h.1))
@@ -165,8 +147,8 @@ pub whole_partial : AllRanksHaveAll → (t : Criterion) (g : Division) (js : Lis
 whole_partial all_ranks t g js gather division whole i group = list_of t group.around (all_ranks g js (gather.rank ∷ gather.absorbed) division whole i)
 
 -- where the lists are those of groups of so many particles, each keeps the limits
-pub listed_each : ListsHoldTheirEntries → (t : Criterion) (js own : List Particle) (listed : List Listed) → HaveDistinctIds js → length js ≤ 65536 → All (IsGroupOf own) (map (λ l. l.group) listed) → map (λ l. l.entries.items) listed ≡ map (list_round t js) (map (λ l. l.group) listed) → All (λ l. IsListed (length own) l.group.span l.entries.items) listed
-listed_each laws t js own listed distinct few of_own lists k d within =
+pub listed_each : ListsAreShort → ListsHoldTheirEntries → (t : Criterion) (js own : List Particle) (listed : List Listed) → HaveDistinctIds js → length js ≤ 65536 → All (IsGroupOf own) (map (λ l. l.group) listed) → map (λ l. l.entries.items) listed ≡ map (list_round t js) (map (λ l. l.group) listed) → All (λ l. IsListed (length own) l.group.span l.entries.items) listed
+listed_each short laws t js own listed distinct few of_own lists k d within =
     let l = get_or listed k d in
     let groups = map (λ (m : Listed). m.group) listed in
     let inside : k < length groups = rw length-map within in
@@ -175,7 +157,7 @@ listed_each laws t js own listed distinct few of_own lists k d within =
     sym (get_or-map (λ (m : Listed). m.entries.items) listed k d [] within) ∙ ap (λ (es : List (List Entry)). get_or es k []) lists ∙ get_or-map (list_round t js) groups k d.group [] inside ∙ ap (list_round t js) group in
     record {
       inside = (subst (IsGroupOf own) group (of_own k d.group inside)).inside;
-      few = (let long = ap length entries in let most = length-list_of t l.group.around js in omega arith);
+      few = (let long = ap length entries in let most = short t l.group.around js in omega arith);
       some = subst (All HasMembers) (sym entries) (All-list_of laws t l.group.around js distinct);
     }
 

@@ -24,6 +24,7 @@ use Rattle.pf_model.specs.Particles.{HaveDistinctIds}
 use Rattle.pf_model.specs.Criterion.{Criterion}
 use Rattle.pf_model.specs.Sums.{moment_of}
 use Rattle.pf_model.specs.Interaction.{level_of, leads_to_cell, entry_at, entry_of, comes_before, list_of}
+use Rattle.pf_model.specs.ParticleLaws.{ParticlesOfOneIdAreOne}
 use Rattle.pf_model.specs.ListLaws.{LevelsAreLeast, ListsHoldTheirEntries}
 use Rattle.group_lists.specs.Places.{place_of}
 use Rattle.group_lists.specs.Runs.{HasEntriesOf}
@@ -121,29 +122,16 @@ before_from_less (One p) (Cell d n) shallow h =
 before_from_less (One p) (One q) shallow h =
     elim (less_pair 31 p.id 31 q.id h) [ inl less ↦ absurd (omega arith) | inr both ↦ lt-ltb p.id q.id both.1 ]
 
--- of particles with distinct ids, those with one id are one
-same_from_id : (js : List Particle) → HaveDistinctIds js → (p q : Particle) → Contains js p → Contains js q → p.id ≡ q.id → p ≡ q
-same_from_id js distinct p q h k same =
-    let ids : List ℕ = map (λ j. j.id) js in
-    let id_at : (r : Particle) (l : Contains js r) → get_or ids l.0 0 ≡ r.id = λ r l. get_or-map (λ (j : Particle). j.id) js l.0 r 0 l.1 ∙ ap (λ (j : Particle). j.id) l.2 in
-    elim (cases_order h.0 k.0) [
-      | inl e ↦ sym h.2 ∙ get_or_default js h.0 p q h.1 ∙ ap (λ (n : ℕ). get_or js n q) e ∙ k.2
-      | inr u ↦ elim u [
-        | inl less ↦ absurd (AllPairs-from_IsDistinct Decides-eqb ids distinct h.0 k.0 0 less (rw length-map k.1) (id_at p h ∙ same ∙ sym (id_at q k)))
-        | inr more ↦ absurd (AllPairs-from_IsDistinct Decides-eqb ids distinct k.0 h.0 0 more (rw length-map h.1) (id_at q k ∙ sym same ∙ sym (id_at p h)))
-      ]
-    ]
-
 abbrev IsLow : Option ℕ → Type 0
 IsLow None = ⊤
 IsLow (Some level) = level ≤ 30
 
 -- entries of particles that stand at one place are one
-one_at_place : (t : Criterion) (box : Bounds) (js : List Particle) → HaveDistinctIds js → (p q : Particle) (o r : Option ℕ) → Contains js p → Contains js q → IsLow o → IsLow r → same_place (entry_at t box js p o) (entry_at t box js q r) ≡ true → entry_at t box js q r ≡ entry_at t box js p o
-one_at_place t box js distinct p q None None h k low high e = ap One (sym (same_from_id js distinct p q h k (eqb-true p.id q.id (and_parts (nat_eq 31 31) (nat_eq p.id q.id) e).1)))
-one_at_place t box js distinct p q None (Some n) h k low high e = absurd (let same = eqb-true 31 n (and_parts _ _ e).0 in omega arith)
-one_at_place t box js distinct p q (Some m) None h k low high e = absurd (let same = eqb-true m 31 (and_parts _ _ e).0 in omega arith)
-one_at_place t box js distinct p q (Some m) (Some n) h k low high e =
+one_at_place : ParticlesOfOneIdAreOne → (t : Criterion) (box : Bounds) (js : List Particle) → HaveDistinctIds js → (p q : Particle) (o r : Option ℕ) → Contains js p → Contains js q → IsLow o → IsLow r → same_place (entry_at t box js p o) (entry_at t box js q r) ≡ true → entry_at t box js q r ≡ entry_at t box js p o
+one_at_place ids t box js distinct p q None None h k low high e = ap One (sym (ids js p q distinct h k (eqb-true p.id q.id (and_parts (nat_eq 31 31) (nat_eq p.id q.id) e).1)))
+one_at_place ids t box js distinct p q None (Some n) h k low high e = absurd (let same = eqb-true 31 n (and_parts _ _ e).0 in omega arith)
+one_at_place ids t box js distinct p q (Some m) None h k low high e = absurd (let same = eqb-true m 31 (and_parts _ _ e).0 in omega arith)
+one_at_place ids t box js distinct p q (Some m) (Some n) h k low high e =
     let level : n ≡ m = sym (eqb-true m n (and_parts _ _ e).0) in
     let key : (cell_at q.at n).key ≡ (cell_at p.at m).key = sym (eqb-true (cell_at p.at m).key (cell_at q.at n).key (and_parts _ _ e).1) in
     let cell : cell_at q.at n ≡ cell_at p.at m = λ i. record { level = level i; key = key i } in
@@ -164,8 +152,8 @@ pairs_from_strict R (x ∷ xs) h =
     AllPairs-cons (λ a b. R a b ≡ Less) x xs (All-from_recursion (λ y. R x y ≡ Less) xs h.0) (pairs_from_strict R xs h.1)
 
 -- the entries of particles, sorted and each once, are their list
-pub list_from_sort : LevelsAreLeast → ListsHoldTheirEntries → (t : Criterion) (box : Bounds) (js : List Particle) → HaveDistinctIds js → (raw sorted : List Entry) → HasEntriesOf t box js raw → IsPermutation raw sorted → IsSortedBy is_earlier sorted → dedup same_place sorted ≡ list_of t box js
-list_from_sort levels laws t box js distinct raw sorted has same order =
+pub list_from_sort : ParticlesOfOneIdAreOne → LevelsAreLeast → ListsHoldTheirEntries → (t : Criterion) (box : Bounds) (js : List Particle) → HaveDistinctIds js → (raw sorted : List Entry) → HasEntriesOf t box js raw → IsPermutation raw sorted → IsSortedBy is_earlier sorted → dedup same_place sorted ≡ list_of t box js
+list_from_sort ids levels laws t box js distinct raw sorted has same order =
     let f = entry_of t box js in
     let low : (p : Particle) → IsLow (level_of t box p.at) = λ p. low_level levels t box p (level_of t box p.at) refl in
     let sound : (e : Entry) → Contains (dedup same_place sorted) e → (j : Particle) × Contains js j × (e ≡ f j) = λ e h.
@@ -183,7 +171,7 @@ list_from_sort levels laws t box js distinct raw sorted has same order =
           let e = kept.1 in
           let from = sound e (kept.0, kept.2, kept.3) in
           let at : same_place (f j) (f from.0) ≡ true = subst (λ (v : Entry). same_place (f j) v ≡ true) from.2 kept.4 in
-          let one : f from.0 ≡ f j = one_at_place t box js distinct j from.0 (level_of t box j.at) (level_of t box from.0.at) h from.1 (low j) (low from.0) at in
+          let one : f from.0 ≡ f j = one_at_place ids t box js distinct j from.0 (level_of t box j.at) (level_of t box from.0.at) h from.1 (low j) (low from.0) at in
           subst (Contains (dedup same_place sorted)) (from.2 ∙ one) (kept.0, kept.2, kept.3);
       sound = sound;
     })

@@ -20,6 +20,7 @@ use Rattle.pf_model.specs.ListLaws.{IsFirstPassing, LevelsAreLeast}
 use Rattle.morton_tree.specs.declared.span.Span.{Span}
 use Rattle.morton_tree.specs.Spans.{at_span}
 use Rattle.group_lists.specs.Runs.{IsRun, HasEntriesOf}
+use Rattle.pf_geom.specs.CellLaws.{PositionsShareLowerCells}
 use Rattle.group_lists.proofs.CellLemmas.{octant, first_shared}
 
 -- a particle stands at one place
@@ -74,17 +75,17 @@ place_in_span c s js i j distinct members inside within at lies =
     (omega arith, omega arith)
 
 -- particles in the first passing cell of one lead to its entry
-shares_entry : LevelsAreLeast → (t : Criterion) (box : Bounds) (js : List Particle) (i j : Particle) (level : ℕ) → IsFirstPassing t box j.at level → lies_in (cell_at j.at level) i ≡ true → entry_of t box js i ≡ entry_of t box js j
-shares_entry laws t box js i j level h lies =
+shares_entry : PositionsShareLowerCells → LevelsAreLeast → (t : Criterion) (box : Bounds) (js : List Particle) (i j : Particle) (level : ℕ) → IsFirstPassing t box j.at level → lies_in (cell_at j.at level) i ≡ true → entry_of t box js i ≡ entry_of t box js j
+shares_entry share laws t box js i j level h lies =
     let key : (cell_at i.at level).key ≡ (cell_at j.at level).key = sym (eqb-true (cell_at j.at level).key (cell_at i.at level).key (and_parts _ _ lies).1) in
     let cell : cell_at i.at level ≡ cell_at j.at level = ap (octant level) key in
-    let mine : level_of t box i.at ≡ Some level = ((laws t box i.at).1 level).1 (first_shared t box j.at i.at level h cell) in
+    let mine : level_of t box i.at ≡ Some level = ((laws t box i.at).1 level).1 (first_shared share t box j.at i.at level h cell) in
     let other : level_of t box j.at ≡ Some level = ((laws t box j.at).1 level).1 h in
     ap (entry_at t box js i) mine ∙ ap (λ (c : Octant). Cell c (moment_of (filter (leads_to_cell t box c) js))) cell ∙ sym (ap (entry_at t box js j) other)
 
 -- so the span of the cell, from the place of one of them on, is a run
-pub run_of_cell : LevelsAreLeast → (t : Criterion) (box : Bounds) (js : List Particle) → HaveDistinctIds js → (place : ℕ) (j : Particle) (level : ℕ) (s : Span) (e : Entry) → place < length js → get_or js place j ≡ j → IsFirstPassing t box j.at level → s.first + s.len ≤ length js → at_span s js ≡ particles_in (cell_at j.at level) js → e ≡ entry_of t box js j → IsRun t box js place e (s.first + s.len)
-run_of_cell laws t box js distinct place j level s e within at h inside members is =
+pub run_of_cell : PositionsShareLowerCells → LevelsAreLeast → (t : Criterion) (box : Bounds) (js : List Particle) → HaveDistinctIds js → (place : ℕ) (j : Particle) (level : ℕ) (s : Span) (e : Entry) → place < length js → get_or js place j ≡ j → IsFirstPassing t box j.at level → s.first + s.len ≤ length js → at_span s js ≡ particles_in (cell_at j.at level) js → e ≡ entry_of t box js j → IsRun t box js place e (s.first + s.len)
+run_of_cell share laws t box js distinct place j level s e within at h inside members is =
     let c = cell_at j.at level in
     let own : lies_in c j ≡ true = and_from _ _ (eq-eqb level level refl) (eq-eqb c.key c.key refl) in
     let here = place_in_span c s js place j distinct members inside within at own in
@@ -94,7 +95,7 @@ run_of_cell laws t box js distinct place j level s e within at h inside members 
       some = to;
       inside = inside;
       entry = (j, at, is);
-      each = λ k i least less at_k. shares_entry laws t box js i j level h (lies_in_cell c s js k i members (omega arith) less inside at_k) ∙ sym is;
+      each = λ k i least less at_k. shares_entry share laws t box js i j level h (lies_in_cell c s js k i members (omega arith) less inside at_k) ∙ sym is;
     }
 
 -- and a particle alone is one

@@ -11,8 +11,8 @@ use crate::lists::Lists;
 use crate::scan::list_over;
 use morton_tree::{Group, Tree};
 use pf_model::{
-    Body, Entry, MOST_PARTICLES, Steps, Terms, Theta, all_ranks_have_all, lists_hold_their_entries,
-    lists_ignore_order, one_rank_has_its_own,
+    Body, Entry, MOST_PARTICLES, Steps, Terms, Theta, all_ranks_have_all, lists_are_short,
+    lists_hold_their_entries, lists_ignore_order, one_rank_has_its_own,
 };
 use pf_num::OutOfMemory;
 use std::alloc::Global;
@@ -108,6 +108,7 @@ impl<T: Terms> Gather<T> {
             ≡ map (λ g. list_of T.theta g.around T.particles) self.groups) }
     {
         lists_hold_their_entries();
+        lists_are_short();
         all_ranks_have_all();
         Ok(Lists::of(self.bodies, self.listed))
     }

@@ -10,9 +10,10 @@ ghost use Rattle.group_lists.specs.Runs.{IsRun, HasEntriesOf};
 
 use morton_tree::Tree;
 use opening_test::passes;
-use pf_geom::{Box3, DEEPEST, Point, cell_of};
+use pf_geom::{Box3, DEEPEST, Point, cell_of, positions_share_lower_cells};
 use pf_model::{
-    Body, Entry, MOST_PARTICLES, Steps, Theta, levels_are_least, lists_hold_their_entries,
+    Body, Entry, MOST_PARTICLES, Steps, Theta, first_cells_hold_their_members, levels_are_least,
+    lists_are_short, lists_hold_their_entries, particles_of_one_id_are_one,
 };
 use pf_num::OutOfMemory;
 use std::alloc::Global;
@@ -36,6 +37,7 @@ pub(crate) fn list_over<L: Ledger>(
     ensures value { IfOk result (λ entries. entries.items ≡ list_of t b tree.now.built) }
     ensures few { IfOk result (λ entries. length entries.items ≤ MOST_PARTICLES) }
 {
+    lists_are_short();
     let bodies = tree.bodies();
     scratch.clear();
     let mut place = 0;
@@ -55,6 +57,7 @@ fn put_in_order(entries: &mut Vec<Entry>)
 {
     levels_are_least();
     lists_hold_their_entries();
+    particles_of_one_id_are_one();
     entries.sort_unstable_by_key(|entry| place_of(entry));
     entries.dedup_by_key(|entry| place_of(entry));
 }
@@ -83,6 +86,8 @@ fn run_from<L: Ledger>(
     ensures { IsRun t b tree.now.built place result.0 result.1 }
 {
     levels_are_least();
+    positions_share_lower_cells();
+    first_cells_hold_their_members();
     let body = &tree.bodies()[place];
     match first_level(b, t, body.at, steps) {
         Some(level) => {

@@ -1,6 +1,5 @@
 use Rattle.std.proofs.Common.{◌≡◌, ◌≤◌, length, ◌∙◌, ap, arith}
 use Rattle.pf_model.specs.Interaction.{list_of}
-use Rattle.group_lists.proofs.GatherLemmas.{length-list_of}
 use Rattle.group_lists.proofs.RunLemmas.{none_below, run_more, all_below}
 use Rattle.group_lists.proofs.scan.list_over.Given as given
 use Rattle.group_lists.proofs.scan.list_over.Goals as goal
@@ -26,7 +25,7 @@ returns g c = record {
   value = list_is g c;
   few = (
       let long = ap length (list_is g c) in
-      let most = length-list_of c.args.t c.args.b c.args.tree.now.built in
+      let most = c.lists_are_short.ensures c.args.t c.args.b c.args.tree.now.built in
       let few = c.bodies-bodies.ensures.tree.are_bodies.few in
       omega arith
       );

@@ -20,7 +20,7 @@ lists_are g c =
 
 pub of-requires-clause-each : goal.of-requires-clause-each
 of-requires-clause-each g c =
-    listed_each c.lists_hold_their_entries.ensures g.T.Terms.theta g.T.Terms.particles c.self.inside.bodies.items c.self.inside.listed.items g.T.Terms.are_bodies.distinct g.T.Terms.are_bodies.few c.self.invariant.of_own (lists_are g c)
+    listed_each c.lists_are_short.ensures c.lists_hold_their_entries.ensures g.T.Terms.theta g.T.Terms.particles c.self.inside.bodies.items c.self.inside.listed.items g.T.Terms.are_bodies.distinct g.T.Terms.are_bodies.few c.self.invariant.of_own (lists_are g c)
 
 pub returns-clause-bodies : goal.returns-clause-bodies
 returns-clause-bodies g c =
