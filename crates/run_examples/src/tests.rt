@@ -1,1 +1,2 @@
+mod dumps;
 mod moves;
