@@ -44,7 +44,11 @@ number_at ns k = slice_index_or ns k (pos 0)
 unfoldable pub particle_of : List ℤ → Particle
 particle_of ns = record {
   id = unsigned_abs (number_at ns 0);
-  at = record { x = unsigned_abs (number_at ns 1); y = unsigned_abs (number_at ns 2); z = unsigned_abs (number_at ns 3) };
+  at = record {
+    x = unsigned_abs (number_at ns 1);
+    y = unsigned_abs (number_at ns 2);
+    z = unsigned_abs (number_at ns 3);
+  };
   vel = number_at ns 4 ∷ number_at ns 5 ∷ number_at ns 6 ∷ [];
   mass = unsigned_abs (number_at ns 7);
   attr = number_at ns 8 ∷ number_at ns 9 ∷ number_at ns 10 ∷ number_at ns 11 ∷ replicate 4 (pos 0);

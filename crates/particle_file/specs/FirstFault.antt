@@ -37,13 +37,16 @@ IsExtra cs fields k = (k ≡ length cs) × (k < length fields)
 
 -- the column has a number that is past its limits
 abbrev pub IsPast : List Limits → List (List ℕ) → ℕ → Type 0
-IsPast cs fields k = (k < length cs) × (k < length fields) × (is_integer (field_at fields k) ≡ true) × ¬ (WritesWithin (limits_at cs k) (field_at fields k))
+IsPast cs fields k = (k < length cs) × (k < length fields) × (is_integer (field_at fields k) ≡ true)
+    × ¬ (WritesWithin (limits_at cs k) (field_at fields k))
 
 -- in the fields of this line, where the first of these columns has this number, the columns before k are
 -- right, and k has the fault
-pub record IsColumnFault (line first : ℕ) (cs : List Limits) (fields : List (List ℕ)) (k : ℕ) (fault : PartFault) : Type 0 where
+pub record IsColumnFault (line first : ℕ) (cs : List Limits) (fields : List (List ℕ)) (k : ℕ) (fault : PartFault)
+    : Type 0 where
   pub before : (j : ℕ) → j < k → IsRight cs fields j
-  pub fault_is : ((fault ≡ faults.Field line (first + k)) × (LacksNumber cs fields k ⊎ IsExtra cs fields k)) ⊎ ((fault ≡ faults.Range line (first + k)) × IsPast cs fields k)
+  pub fault_is : ((fault ≡ faults.Field line (first + k)) × (LacksNumber cs fields k ⊎ IsExtra cs fields k))
+      ⊎ ((fault ≡ faults.Range line (first + k)) × IsPast cs fields k)
 
 -- the line spells a particle, but one before it has the id
 pub record RepeatsId (before : List Particle) (line : FieldLine) : Type 0 where
@@ -110,7 +113,8 @@ pub record HasCount (rest : List FieldLine) (n : ℕ) : Type 0 where
 abbrev pub HasFirstFault : List ℕ → PartFault → Type 0
 HasFirstFault text faults.Header = (rest : List FieldLine) → HasHeader text rest → ⊥
 HasFirstFault text faults.Count = (rest : List FieldLine) × HasHeader text rest × ((n : ℕ) → HasCount rest n → ⊥)
-HasFirstFault text faults.TooMany = (rest : List FieldLine) × (n : ℕ) × HasHeader text rest × HasCount rest n × (MOST_PARTICLES < n)
+HasFirstFault text faults.TooMany =
+    (rest : List FieldLine) × (n : ℕ) × HasHeader text rest × HasCount rest n × (MOST_PARTICLES < n)
 HasFirstFault text (faults.Short line) = (line ≡ length (lines text) + 1) × EndsEarly text
 HasFirstFault text (faults.Trailing line) = GoesOn text line
 HasFirstFault text (faults.Field line column) = StopsInLine text (faults.Field line column)

@@ -23,8 +23,10 @@ FaultsAreFirst = (text : List ℕ) (fault : PartFault) → (reading text ≡ Err
 
 -- what is spelled keeps every limit, and has no attributes past c3
 abbrev pub WhatIsSpelledIsPlain : Type 0
-WhatIsSpelledIsPlain = (text : List ℕ) (ps : List Particle) → SpellsText text ps → AllByRecursion IsParticle ps × AllByRecursion IsPlain ps
+WhatIsSpelledIsPlain = (text : List ℕ) (ps : List Particle) → SpellsText text ps
+    → AllByRecursion IsParticle ps × AllByRecursion IsPlain ps
 
 abbrev pub PrintedParticlesReadBack : Type 0
-PrintedParticlesReadBack = (ps : List Particle) → AreBodies ps → AllByRecursion IsParticle ps → AllByRecursion IsPlain ps
+PrintedParticlesReadBack = (ps : List Particle)
+    → AreBodies ps → AllByRecursion IsParticle ps → AllByRecursion IsPlain ps
     → reading (particles_text ps) ≡ Ok ps

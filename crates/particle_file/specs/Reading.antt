@@ -45,7 +45,9 @@ numbers_in line column (limits ∷ more) (field ∷ fields) =
 abbrev pub particle_in : List Particle → FieldLine → Result Particle PartFault
 particle_in before line =
     numbers_in line.number 1 columns line.fields >>= λ ns.
-    (if list_any (λ p. p.id == (particle_of ns).id) before then Err (faults.DuplicateId line.number) else Ok (particle_of ns))
+    (if list_any (λ p. p.id == (particle_of ns).id) before
+    then Err (faults.DuplicateId line.number)
+    else Ok (particle_of ns))
 
 -- after these particles as many as are due, each in a line; the text has `count` lines in all
 abbrev pub particles_in : ℕ → ℕ → List Particle → List FieldLine → Result (List Particle) PartFault
@@ -62,13 +64,17 @@ two_of other = None
 
 -- `particles` and `1`
 abbrev pub is_header : List (List ℕ) → Bool
-is_header fields = option_map_or (λ p. pointwise nat_eq p.0 (codes "particles") && pointwise nat_eq p.1 (codes "1")) (two_of fields) false
+is_header fields =
+    option_map_or (λ p. pointwise nat_eq p.0 (codes "particles") && pointwise nat_eq p.1 (codes "1"))
+    (two_of fields) false
 
 -- `count` and a run of digits, at most 65,536
 abbrev pub count_in : List (List ℕ) → Result ℕ PartFault
 count_in fields =
     option_map_or
-    (λ p. if pointwise nat_eq p.0 (codes "count") then number_or faults.Count faults.TooMany (digits_in 0 MOST_PARTICLES p.1) else Err faults.Count)
+    (λ p. if pointwise nat_eq p.0 (codes "count")
+    then number_or faults.Count faults.TooMany (digits_in 0 MOST_PARTICLES p.1)
+    else Err faults.Count)
     (two_of fields) (Err faults.Count)
 
 -- a count, and as many particles; the text has `count` lines in all

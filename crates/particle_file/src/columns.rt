@@ -74,7 +74,8 @@ fn next_number(
     // Whichever columns follow.
     ensures ok { IfOk result (λ n. (more : List Limits) → numbers_in line column (limits ∷ more) fields.old
         ≡ with_first n (numbers_in line (suc column) more fields.new)) }
-    ensures err { IfErr result (λ fault. (more : List Limits) → numbers_in line column (limits ∷ more) fields.old ≡ Err fault) }
+    ensures err { IfErr result (λ fault. (more : List Limits)
+        → numbers_in line column (limits ∷ more) fields.old ≡ Err fault) }
 {
     let Some(field) = fields.next_field() else {
         return Err(PartFault::Field(line, column));

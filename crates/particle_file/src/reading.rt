@@ -37,7 +37,8 @@ pub fn read(alloc: Global, text: &[u8]) -> Result<Particles, PartFault>
 
 // The count of the particles, after the header.
 fn head(lines: &mut Lines<'_>) -> Result<u32, PartFault>
-    ensures ok { IfOk result (λ due. reading_of lines.old.count lines.old.ahead ≡ particles_in lines.old.count due [] lines.new.ahead) }
+    ensures ok { IfOk result (λ due. reading_of lines.old.count lines.old.ahead
+        ≡ particles_in lines.old.count due [] lines.new.ahead) }
     ensures few { IfOk result (λ due. due ≤ MOST_PARTICLES) }
     ensures count { lines.new.count ≡ lines.old.count }
     ensures err { IfErr result (λ fault. reading_of lines.old.count lines.old.ahead ≡ Err fault) }
@@ -99,10 +100,12 @@ fn two_of(line: Line<'_>) -> Option<(&[u8], &[u8])>
 // As many particles as are due, each of a line.
 fn bodies_in(alloc: Global, lines: &mut Lines<'_>, due: u32) -> Result<Vec<Body>, PartFault>
     requires { due ≤ MOST_PARTICLES }
-    ensures ok { IfOk result (λ bodies. particles_in lines.old.count due [] lines.old.ahead ≡ particles_in lines.old.count 0 bodies.items lines.new.ahead) }
+    ensures ok { IfOk result (λ bodies. particles_in lines.old.count due [] lines.old.ahead
+        ≡ particles_in lines.old.count 0 bodies.items lines.new.ahead) }
     ensures bodies { IfOk result (λ bodies. AreBodies bodies.items) }
     ensures count { lines.new.count ≡ lines.old.count }
-    ensures err { IfErr result (λ fault. (fault ≡ Memory) ⊎ (particles_in lines.old.count due [] lines.old.ahead ≡ Err fault)) }
+    ensures err { IfErr result (λ fault. (fault ≡ Memory)
+        ⊎ (particles_in lines.old.count due [] lines.old.ahead ≡ Err fault)) }
 {
     let mut ids = BTreeSet::new(alloc);
     let mut bodies = Vec::new(alloc);

@@ -37,7 +37,9 @@ pub record FieldLine : Type 0 where
 -- those of these lines that aren't skipped, where the first has this number
 abbrev pub field_lines_from : ℕ → List (List ℕ) → List FieldLine
 field_lines_from number [] = []
-field_lines_from number (line ∷ more) = (if is_skipped line then [] else record { number = number; fields = fields line } ∷ []) ++ field_lines_from (suc number) more
+field_lines_from number (line ∷ more) =
+    (if is_skipped line then [] else record { number = number; fields = fields line } ∷ [])
+    ++ field_lines_from (suc number) more
 
 abbrev pub field_lines : List ℕ → List FieldLine
 field_lines text = field_lines_from 1 (lines text)

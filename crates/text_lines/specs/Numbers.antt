@@ -18,7 +18,8 @@ is_integer (byte ∷ bytes) = if byte == 45 then is_digits bytes else is_digits 
 
 abbrev pub integer_value : List ℕ → ℤ
 integer_value [] = pos 0
-integer_value (byte ∷ bytes) = if byte == 45 then neg_ℤ (pos (digits_value 10 bytes)) else pos (digits_value 10 (byte ∷ bytes))
+integer_value (byte ∷ bytes) =
+    if byte == 45 then neg_ℤ (pos (digits_value 10 bytes)) else pos (digits_value 10 (byte ∷ bytes))
 
 abbrev pub is_between : ℤ → ℤ → ℤ → Bool
 is_between least most n = int_le least n && int_le n most
@@ -27,7 +28,10 @@ is_between least most n = int_le least n && int_le n most
 abbrev pub digits_in : ℕ → ℕ → List ℕ → Result ℕ NumberFault
 digits_in least most field =
     if is_digits field
-    then (if nat_le least (digits_value 10 field) && nat_le (digits_value 10 field) most then Ok (digits_value 10 field) else Err OutOfRange)
+    then (
+    if nat_le least (digits_value 10 field) && nat_le (digits_value 10 field) most
+    then Ok (digits_value 10 field)
+    else Err OutOfRange)
     else Err NoNumber
 
 abbrev pub integer_in : ℤ → ℤ → List ℕ → Result ℤ NumberFault

@@ -21,7 +21,10 @@ impl<'a> Model for Lines<'a> {
 
     ghost Value = { LinesAhead };
 
-    ghost view = { λ l. record { ahead = field_lines_from (suc l.before) (lines l.rest.now); count = l.before + length (lines l.rest.now) } };
+    ghost view = { λ l. record {
+      ahead = field_lines_from (suc l.before) (lines l.rest.now);
+      count = l.before + length (lines l.rest.now);
+    } };
 
     ghost invariant = { λ l. l.before + length l.rest.now ≤ 2 ^ 31 };
 }
@@ -40,7 +43,8 @@ impl<'a> Lines<'a> {
 
     /// The next line that isn't skipped.
     pub fn next_line(&mut self) -> Option<Line<'a>>
-        ensures line { MatchOption result ((self.old.ahead ≡ []) × (self.new.ahead ≡ [])) (λ line. self.old.ahead ≡ line ∷ self.new.ahead) }
+        ensures line { MatchOption result ((self.old.ahead ≡ []) × (self.new.ahead ≡ []))
+            (λ line. self.old.ahead ≡ line ∷ self.new.ahead) }
         ensures count { self.new.count ≡ self.old.count }
     {
         while !self.rest.is_empty() {
