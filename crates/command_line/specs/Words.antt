@@ -1,6 +1,7 @@
 -- The command that the words after the program's name give. Another command is one more definition, and its line in
 -- `command_named`.
-use Rattle.std.specs.Prelude.{ℕ, ◌-◌, ◌^◌, List, [], ◌∷◌, Option, Some, None, option_and_then, option_map, codes, if◌then◌else◌}
+use Rattle.std.specs.Prelude.{ℕ, ◌-◌, ◌^◌, if◌then◌else◌, List, [], ◌∷◌, codes}
+use Rattle.std.specs.Prelude.{Option, Some, None, option_and_then, option_map}
 use Rattle.std.specs.Borrow.{Bor}
 use Rattle.std.specs.Option.{option_map_or}
 use Rattle.std.specs.Str.{bytes_eq}
@@ -30,7 +31,8 @@ bench_form = with_workers (with_word (codes "seed") (with_word (codes "particles
 
 abbrev pub bench_in : List Row → Option (Command Text)
 bench_in rows =
-    with_three Bench (number_in (codes "particles") 0 65536 rows) (number_in (codes "seed") 0 (2 ^ 64 - 1) rows) (workers_in rows)
+    with_three Bench (number_in (codes "particles") 0 65536 rows) (number_in (codes "seed") 0 (2 ^ 64 - 1) rows)
+    (workers_in rows)
 
 -- the command that words of this form give
 abbrev pub given_by : App → (List Row → Option (Command Text)) → List Text → Option (Command Text)

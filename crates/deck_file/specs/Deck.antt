@@ -1,5 +1,6 @@
 -- The deck of its settings.
-use Rattle.std.specs.Prelude.{ℕ, Bool, true, false, ◌&&◌, ◌==◌, not, if◌then◌else◌, List, Option, Some, None, Result, Ok, Err, option_and_then, unwrap_or}
+use Rattle.std.specs.Prelude.{ℕ, Bool, true, false, ◌&&◌, ◌==◌, not, if◌then◌else◌, List}
+use Rattle.std.specs.Prelude.{Option, Some, None, option_and_then, unwrap_or, Result, Ok, Err}
 use Rattle.pf_geom.specs.declared.edge.Edge.{Edge}
 use Rattle.pf_geom.specs.declared.edge.Edge.TheVariants.{Open, Periodic}
 use Rattle.pf_model.specs.Division.{Division}
@@ -54,8 +55,10 @@ abbrev pub with_files : List KeyValue → Option (List ℕ) → Option (List ℕ
 with_files settings None particles out = Err (faults.Missing names.Kernel)
 with_files settings (Some kernel) None out = Err (faults.Missing names.Particles)
 with_files settings (Some kernel) (Some particles) None = Err (faults.Missing names.Out)
-with_files settings (Some kernel) (Some particles) (Some out) = with_lists_built (deck_with settings kernel particles out)
+with_files settings (Some kernel) (Some particles) (Some out) =
+    with_lists_built (deck_with settings kernel particles out)
 
 -- the deck that all settings of a text give, or what is wrong with them
 abbrev pub deck_of : List KeyValue → Result Deck DeckFault
-deck_of settings = with_files settings (value_in settings keys.Kernel) (value_in settings keys.Particles) (value_in settings keys.Out)
+deck_of settings =
+    with_files settings (value_in settings keys.Kernel) (value_in settings keys.Particles) (value_in settings keys.Out)

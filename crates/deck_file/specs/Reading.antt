@@ -22,8 +22,10 @@ HasKey line key = (values : List (List ℕ)) × (line.fields ≡ keyword_text ke
 -- the fault of a line after lines that give these settings
 abbrev pub IsFaultAfter : List KeyValue → FieldLine → DeckFault → Type 0
 IsFaultAfter settings line (faults.UnknownKey at) = (at ≡ line.number) × ((key : Keyword) → ¬ HasKey line key)
-IsFaultAfter settings line (faults.Twice at) = (at ≡ line.number) × ((key : Keyword) × HasKey line key × IsSome (value_in settings key))
-IsFaultAfter settings line (faults.Value at) = (at ≡ line.number) × ((key : Keyword) × HasKey line key × (value_in settings key ≡ None)
+IsFaultAfter settings line (faults.Twice at) =
+    (at ≡ line.number) × ((key : Keyword) × HasKey line key × IsSome (value_in settings key))
+IsFaultAfter settings line (faults.Value at) =
+    (at ≡ line.number) × ((key : Keyword) × HasKey line key × (value_in settings key ≡ None)
     × ((value : List ℕ) → line.fields ≡ keyword_text key ∷ value ∷ [] → is_of_form key value ≡ false))
 IsFaultAfter settings line (faults.Missing key) = ⊥
 IsFaultAfter settings line faults.Reuse = ⊥

@@ -43,4 +43,5 @@ pub record IsNext (settings : List KeyValue) (line : FieldLine) (setting : KeyVa
 -- after lines that give the settings of `before`, these lines give all of `after`
 abbrev pub Gives : List KeyValue → List FieldLine → List KeyValue → Type 0
 Gives before [] after = before ≡ after
-Gives before (line ∷ lines) after = (setting : KeyValue) × IsNext before line setting × Gives (before ++ setting ∷ []) lines after
+Gives before (line ∷ lines) after =
+    (setting : KeyValue) × IsNext before line setting × Gives (before ++ setting ∷ []) lines after

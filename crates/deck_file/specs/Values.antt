@@ -1,5 +1,6 @@
 -- The values of a deck's keys.
-use Rattle.std.specs.Prelude.{ℕ, ◌*◌, suc, Bool, ◌&&◌, ◌==◌, nat_le, if◌then◌else◌, List, length, take, drop, codes, position, Option, Some, None, option_map, option_and_then}
+use Rattle.std.specs.Prelude.{ℕ, ◌*◌, suc, Bool, ◌&&◌, ◌==◌, nat_le, if◌then◌else◌}
+use Rattle.std.specs.Prelude.{List, length, take, drop, codes, position, Option, Some, None, option_map, option_and_then}
 use Rattle.std.specs.List.{list_all}
 use Rattle.std.specs.Result.{result_ok}
 use Rattle.std.specs.Str.{bytes_eq}
@@ -32,10 +33,12 @@ angle_with _ _ = None
 
 -- `A/B`
 abbrev pub angle_of : List ℕ → Option (ℕ × ℕ)
-angle_of value = option_and_then (λ parts. angle_with (number_of 0 1024 parts.0) (number_of 1 1024 parts.1)) (cut_at 47 value)
+angle_of value =
+    option_and_then (λ parts. angle_with (number_of 0 1024 parts.0) (number_of 1 1024 parts.1)) (cut_at 47 value)
 
 abbrev pub division_with : Option ℕ → Option ℕ → Option ℕ → Option Division
-division_with (Some nx) (Some ny) (Some nz) = if nat_le (nx * ny * nz) MOST_RANKS then Some (record { nx = nx; ny = ny; nz = nz }) else None
+division_with (Some nx) (Some ny) (Some nz) =
+    if nat_le (nx * ny * nz) MOST_RANKS then Some (record { nx = nx; ny = ny; nz = nz }) else None
 division_with _ _ _ = None
 
 abbrev pub slabs : List ℕ → Option ℕ
@@ -44,8 +47,11 @@ slabs = number_of 1 MOST_RANKS
 -- `AxBxC`
 abbrev pub division_of : List ℕ → Option Division
 division_of value =
-    option_and_then (λ first. option_and_then (λ second. division_with (slabs first.0) (slabs second.0) (slabs second.1)) (cut_at 120 first.1))
-    (cut_at 120 value)
+    option_and_then (λ first.
+    option_and_then (λ second. division_with (slabs first.0) (slabs second.0) (slabs second.1))
+    (cut_at 120 first.1)) (cut_at 120 value)
 
 abbrev pub edge_of : List ℕ → Option Edge
-edge_of value = if bytes_eq value (codes "open") then Some Open else (if bytes_eq value (codes "periodic") then Some Periodic else None)
+edge_of value =
+    if bytes_eq value (codes "open") then Some Open
+    else (if bytes_eq value (codes "periodic") then Some Periodic else None)

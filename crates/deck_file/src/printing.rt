@@ -46,7 +46,8 @@ fn push_line(out: &mut Vec<u8>, key: Keyword, value: &[u8]) -> Result<(), OutOfM
 
 // The line of a key with a number.
 fn push_number(out: &mut Vec<u8>, key: Keyword, number: u32) -> Result<(), OutOfMemory>
-    ensures { OnOk result (out.new.items ≡ out.old.items ++ written_line (fields_of (with_value key (decimal number)))) }
+    ensures { OnOk result (out.new.items
+        ≡ out.old.items ++ written_line (fields_of (with_value key (decimal number)))) }
 {
     push_key(out, key)?;
     push_decimal(out, i128::from(number))?;

@@ -1,8 +1,10 @@
-ghost use Rattle.std.specs.Prelude.{◌≡◌, ◌≢◌, ℕ, ◌^◌, ◌≤◌, ◌⊎◌, List, [], ◌++◌, ◌∷◌, length, map, true, false, Result, option_map, IfOk, IfErr, MatchOption};
+ghost use Rattle.std.specs.Prelude.{◌≡◌, ◌≢◌, ℕ, ◌^◌, ◌≤◌, ◌⊎◌, true, false, List, [], ◌∷◌, length};
+ghost use Rattle.std.specs.Prelude.{Result, IfOk, IfErr, option_map, MatchOption};
 ghost use Rattle.text_lines.specs.Lines.{field_lines};
 ghost use Rattle.pf_model.specs.Criterion.{IsAngle};
 ghost use Rattle.deck_file.specs.Deck.{angle_in, deck_of, edge_in, grid_in, setting};
-ghost use Rattle.deck_file.specs.Reading.{GivesUnlessMemory, HasFaultyLine, HasFirstDeckFault, IsFaultAfter, Reads, Spells};
+ghost use Rattle.deck_file.specs.Reading.{GivesUnlessMemory, HasFaultyLine, HasFirstDeckFault};
+ghost use Rattle.deck_file.specs.Reading.{IsFaultAfter, Reads, Spells};
 ghost use Rattle.deck_file.specs.Keywords.{keyword_text};
 ghost use Rattle.deck_file.specs.Settings.{Gives, IsNext, is_of_form, value_in};
 ghost use Rattle.deck_file.specs.Values.{number_of};
