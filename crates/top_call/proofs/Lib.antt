@@ -1,1 +1,6 @@
+pub mod DumpLemmas
+pub mod InputLemmas
 pub mod KernelLemmas
+pub mod OneVerdict
+pub mod RunSteps
+pub mod WordLemmas

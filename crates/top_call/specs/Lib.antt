@@ -1,2 +1,6 @@
 pub mod Inputs
+pub mod Refusals
+pub mod Run
+pub mod Said
 pub mod Status
+pub mod Steps

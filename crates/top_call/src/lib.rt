@@ -2,7 +2,15 @@
 // decks, kernels and particles, on the definition of a run, and on the frame of commands.
 #![tactic(auto)]
 
+mod dumps;
 mod inputs;
+mod run;
+mod said;
 mod status;
+mod top;
+mod world;
 
+pub use said::said_line;
 pub use status::{Refusal, Status, code};
+pub use top::{fdps, one_verdict};
+pub use world::{StepFault, World};

@@ -1,16 +1,22 @@
 ghost use Rattle.std.specs.Prelude.{◌≡◌};
 ghost use Rattle.top_call.specs.Status.{code_of};
 
+use deck_file::DeckFault;
 use kern_token::KernFault;
 use kern_types::TypeFault;
-use pf_geom::Axis as Fault;
+use particle_file::PartFault;
+use run_model::Fault;
 
-/// Why an input is refused: the first that is too large, or its first fault.
+/// Why an input is refused: it is too large, or this is its first fault, which is never want of memory.
 #[derive(Clone, Copy, Debug, PartialEq, Eq, Hash)]
 pub enum Refusal {
+    DeckTooLarge,
+    Deck(DeckFault),
     KernelTooLarge,
     Kernel(KernFault),
     Types(TypeFault),
+    ParticlesTooLarge,
+    Particles(PartFault),
 }
 
 /// How a command ended.

@@ -1,12 +1,11 @@
-use Rattle.std.proofs.Common.{Ok}
 use Rattle.kern_token.specs.declared.limits.TheConstants.{MOST_TEXT}
 use Rattle.command_frame.proofs.StepLaws.{load_then_read}
-use Rattle.top_call.specs.Inputs.{KernelReads}
+use Rattle.top_call.specs.Inputs.{KernelMeans}
 use Rattle.top_call.specs.declared.status.Refusal.TheVariants.{KernelTooLarge}
 use Rattle.top_call.proofs.inputs.read_kernel.Goals as goal
 
 pub returns : goal.returns
 returns g c =
     let read = rw c.deref.ensures.value at c.kernel_in.ensures in
-    load_then_read MOST_TEXT KernelTooLarge KernelReads (λ v. v.items) (λ kernel. kernel) c.args.name.now c.in_ok-text.text c.load.result c.kernel_in.result _ _
+    load_then_read MOST_TEXT KernelTooLarge KernelMeans (λ v. v.items) (λ kernel. kernel) c.args.name.now c.in_ok-text.text c.load.result c.kernel_in.result _ _
     c.in_ok-text.was c.load.ensures.reads read

@@ -1,0 +1,80 @@
+-- The steps of a run, as a command.
+use Rattle.std.proofs.Common.{ℕ, ◌≡◌, List, Bool, true, false, Option, Some, None, option_map, nat_eq, if◌then◌else◌, refl, sym, ap, subst, ◌∙◌}
+use Rattle.std.specs.List.{concat}
+use Rattle.pf_io.specs.Store.{Files}
+use Rattle.deck_file.specs.declared.deck.Deck.{Deck}
+use Rattle.run_model.specs.declared.fault.Fault.{Fault}
+use Rattle.run_model.specs.Setup.{Setup}
+use Rattle.command_frame.specs.Effects.{CarriesOut}
+use Rattle.command_frame.specs.Standing.{Standing}
+use Rattle.command_frame.specs.Status.{EndsReading, EndsWriting}
+use Rattle.command_frame.specs.Verdict.{Verdict, stops, writes, Unless}
+use Rattle.command_frame.specs.declared.status.Part.{Part}
+use Rattle.command_frame.specs.declared.status.Part.TheVariants as parts
+use Rattle.command_frame.specs.declared.status.Status.TheVariants.{Done, Usage, Refused, Numeric, Lists, NotBuilt, StoreFault, Memory}
+use Rattle.command_frame.specs.declared.status.StoreCall.TheVariants.{Open, Read, Create, Write, Say}
+use Rattle.command_frame.proofs.StepLaws.{carried_as_more, carried_at_once}
+use Rattle.top_call.specs.declared.status.Refusal.{Refusal}
+use Rattle.top_call.specs.Run.{Ending, EndsRun, WithBuiltDeck, WithDeck, is_one_rank, last_status, run_verdict, unbuilt}
+use Rattle.top_call.specs.Steps.{coming, texts_from}
+use Rattle.top_call.proofs.DumpLemmas.{all_texts}
+
+pub reading_ends_run : (status : Ending) → EndsReading status → EndsRun status
+reading_ends_run Done h = absurd h
+reading_ends_run Usage h = absurd h
+reading_ends_run (Refused refusal) h = tt
+reading_ends_run (Numeric step fault) h = absurd h
+reading_ends_run (Lists step count) h = absurd h
+reading_ends_run (NotBuilt part) h = absurd h
+reading_ends_run (StoreFault Open) h = tt
+reading_ends_run (StoreFault Read) h = tt
+reading_ends_run (StoreFault Create) h = absurd h
+reading_ends_run (StoreFault Write) h = absurd h
+reading_ends_run (StoreFault Say) h = absurd h
+reading_ends_run Memory h = tt
+
+pub writing_ends_run : (status : Ending) → EndsWriting status → EndsRun status
+writing_ends_run Done h = tt
+writing_ends_run Usage h = absurd h
+writing_ends_run (Refused refusal) h = absurd h
+writing_ends_run (Numeric step fault) h = tt
+writing_ends_run (Lists step count) h = tt
+writing_ends_run (NotBuilt part) h = absurd h
+writing_ends_run (StoreFault Open) h = absurd h
+writing_ends_run (StoreFault Read) h = absurd h
+writing_ends_run (StoreFault Create) h = tt
+writing_ends_run (StoreFault Write) h = tt
+writing_ends_run (StoreFault Say) h = absurd h
+writing_ends_run Memory h = tt
+
+-- a part of a run that isn't built is no command
+is_of_run : (one_rank at_once : Bool) (part : Part) → (if one_rank then (if at_once then None else Some parts.Reuse) else Some parts.Grid) ≡ Some part → EndsRun (NotBuilt part)
+is_of_run true true part e = cc
+is_of_run true false part e = let same : parts.Reuse ≡ part = cc in subst (λ (p : Part). EndsRun (NotBuilt p)) same tt
+is_of_run false at_once part e = let same : parts.Grid ≡ part = cc in subst (λ (p : Part). EndsRun (NotBuilt p)) same tt
+
+pub stops_unbuilt : (deck : Deck) (part : Part) (old : Standing) → unbuilt deck ≡ Some part → CarriesOut EndsRun (WithDeck deck) (NotBuilt part) old old
+stops_unbuilt deck part old e =
+    carried_at_once EndsRun (WithDeck deck) (NotBuilt part) old (is_of_run (is_one_rank deck.grid) (nat_eq deck.reuse 1) part e)
+    (λ files. record { meant = stops_here files; kept = refl }) (λ files said. refl) refl
+  where
+    stops_here : (files : Files) → WithDeck deck files (stops (NotBuilt part))
+    stops_here files =
+        subst (λ (o : Option Part). Unless (option_map NotBuilt o) (WithBuiltDeck deck files) (stops (NotBuilt part))) (sym e) refl
+
+pub goes_on_built : (deck : Deck) (status : Ending) (old new : Standing) → unbuilt deck ≡ None → CarriesOut EndsRun (WithBuiltDeck deck) status old new → CarriesOut EndsRun (WithDeck deck) status old new
+goes_on_built deck status old new e h = carried_as_more EndsRun EndsRun (WithBuiltDeck deck) (WithDeck deck) status old new (λ ends. ends)
+    (λ files verdict m. subst (λ (o : Option Part). Unless (option_map NotBuilt o) (WithBuiltDeck deck files) verdict) (sym e) m) h
+
+-- the verdict that the dumps of a run are written
+abbrev pub WritesDumps : List ℕ → Setup → Files → Verdict Refusal Fault → Type 0
+WritesDumps out run files verdict = verdict ≡ run_verdict out run
+
+pub dumps_written : {W : Type 0} (out name : List ℕ) (run other : Setup) (world : W) (status : Ending) (old new : Standing) → name ≡ out → run ≡ other
+    → CarriesOut EndsWriting (λ files verdict. verdict ≡ writes name (concat (coming run (Some world) 0).texts) (coming run (Some world) 0).last) status old new
+    → CarriesOut EndsWriting (WritesDumps out other) status old new
+dumps_written out name run other world status old new named same h =
+    carried_as_more EndsWriting EndsWriting _ (WritesDumps out other) status old new (λ ends. ends)
+    (λ files verdict m. m ∙ ap (λ (n : List ℕ). writes n (concat (texts_from run 0)) (last_status run)) named
+    ∙ ap (λ (text : List ℕ). writes out text (last_status run)) (all_texts run)
+    ∙ ap (run_verdict out) same) h
