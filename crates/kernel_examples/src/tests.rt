@@ -1,3 +1,4 @@
+mod pairs;
 mod parsing;
 mod printing;
 mod reading_back;
