@@ -1,10 +1,10 @@
 -- A command concludes: it was carried out, and then its line was said.
 use Rattle.std.proofs.Common.{ℕ, ◌≡◌, ◌≢◌, ◌+◌, ◌<◌, ◌⊎◌, inl, inr, List, ◌++◌, IsTrue, IfSome, option_map, refl, sym, ap, subst, ◌∙◌, arith}
 use Rattle.pf_io.specs.Store.{Files, Told, Faults, after_say, one_more_say}
-use Rattle.command_frame.specs.Clauses.{Concludes, IsUnlessStopped, IsJudgement, HasLine, IsAccepted, IsOutputDue, HasAnswered, HasOutput, HasFront, WritesNothing, IsNoOutput, SaidThis, SaidNothing}
+use Rattle.command_frame.specs.Clauses.{Concludes, IsUnlessStopped, IsJudgement, HasLine, IsAccepted, IsOutputDue, HasAnswered, HasOutput, HasOutputFront, WritesNothing, IsNoOutput, SaidThis, SaidNothing}
 use Rattle.command_frame.specs.Effects.{CarriesOut, SaysLine, Leaves, LeavesSaid}
 use Rattle.command_frame.specs.Standing.{Standing, IfBoth, IfTold}
-use Rattle.command_frame.specs.Status.{fault_of, count_of, counted}
+use Rattle.command_frame.specs.Status.{failed_call, count_of, counts_after}
 use Rattle.command_frame.specs.Verdict.{Verdict, lacks, stops, writes, speaks, AtMostOne}
 use Rattle.command_frame.specs.declared.status.Status.{Status}
 use Rattle.command_frame.specs.declared.status.Status.TheVariants.{Done, Usage, Refused, Numeric, Lists, NotBuilt, StoreFault, Memory}
@@ -99,7 +99,7 @@ module _ {R F : Type 0} (MayEnd : Status R F → Type 0) (Means : Files → Verd
   done_counts : result ≡ Done → new.faults ≡ old.faults
   done_counts is =
       elim says [
-        | inl a ↦ a.3 ∙ carried.counts ∙ ap (λ (s : Status R F). counted (fault_of s) old.faults) a.1
+        | inl a ↦ a.3 ∙ carried.counts ∙ ap (λ (s : Status R F). counts_after (failed_call s) old.faults) a.1
         | inr t ↦ elim t [
           | inl b ↦ absurd (b.1 (sym b.0 ∙ is))
           | inr u ↦ elim u [ inl c ↦ absurd (c.1 (sym c.0 ∙ is)) | inr d ↦ let e = sym d.0 ∙ is in cc ]
@@ -277,9 +277,9 @@ module _ {R F : Type 0} (MayEnd : Status R F → Type 0) (Means : Files → Verd
         (λ t u w name none. other_kept_of (Means t.files) result t.files u.files name none w);
     output = λ l. of_both (λ t u. HasOutput (Means t.files) result u.files)
         (λ t u w. output_of (Means t.files) result t.files u.files (one t.files) l w);
-    write_fault = λ is. of_both (λ t u. HasFront (Means t.files) u.files)
+    write_fault = λ is. of_both (λ t u. HasOutputFront (Means t.files) u.files)
         (λ t u w. write_fault_of (Means t.files) result t.files u.files (one t.files) is w);
-    memory = λ is. of_both (λ t u. (u.files ≡ t.files) ⊎ (IsOutputDue (Means t.files) × HasFront (Means t.files) u.files))
+    memory = λ is. of_both (λ t u. (u.files ≡ t.files) ⊎ (IsOutputDue (Means t.files) × HasOutputFront (Means t.files) u.files))
         (λ t u w. memory_of (Means t.files) result t.files u.files (one t.files) is w);
     fault_rose = fault_rose;
     create_and_write_only = λ is. of_entry (λ t. IsOutputDue (Means t.files)) (λ t u w. due_of (Means t.files) result t.files u.files is w);

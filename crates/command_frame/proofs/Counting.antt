@@ -2,7 +2,7 @@
 use Rattle.std.proofs.Common.{◌≡◌, ◌≢◌, ◌<◌, ◌⊎◌, inl, inr, Option, None, refl, ap, arith}
 use Rattle.pf_io.specs.Store.{Faults, one_more_say}
 use Rattle.command_frame.specs.Clauses.{IsJudgement, HasLine}
-use Rattle.command_frame.specs.Status.{fault_of, count_of, one_more, counted}
+use Rattle.command_frame.specs.Status.{failed_call, count_of, one_more, counts_after}
 use Rattle.command_frame.specs.declared.status.Status.{Status}
 use Rattle.command_frame.specs.declared.status.Status.TheVariants.{Done, Usage, Refused, Numeric, Lists, NotBuilt, StoreFault, Memory}
 use Rattle.command_frame.specs.declared.status.StoreCall.{StoreCall}
@@ -30,7 +30,7 @@ say_alone Create faults ne = refl
 say_alone Write faults ne = refl
 say_alone Say faults ne = absurd (ne refl)
 
-pub no_fault_of : {R F : Type 0} (status : Status R F) → IsJudgement status → fault_of status ≡ None
+pub no_fault_of : {R F : Type 0} (status : Status R F) → IsJudgement status → failed_call status ≡ None
 no_fault_of Done j = refl
 no_fault_of Usage j = refl
 no_fault_of (Refused refusal) j = refl
@@ -41,7 +41,7 @@ no_fault_of (StoreFault call) j = absurd j
 no_fault_of Memory j = refl
 
 -- under a status that has a line, no fault of saying came before the line
-pub says_kept : {R F : Type 0} (status : Status R F) (faults : Faults) → HasLine status → (counted (fault_of status) faults).says ≡ faults.says
+pub says_kept : {R F : Type 0} (status : Status R F) (faults : Faults) → HasLine status → (counts_after (failed_call status) faults).says ≡ faults.says
 says_kept Done faults h = refl
 says_kept Usage faults h = refl
 says_kept (Refused refusal) faults h = refl
@@ -55,7 +55,7 @@ says_kept (StoreFault Write) faults h = refl
 says_kept (StoreFault Say) faults h = absurd h
 says_kept Memory faults h = refl
 
-pub fault_or_none : {R F : Type 0} (status : Status R F) → (fault_of status ≡ None) ⊎ ((call : StoreCall) × (status ≡ StoreFault call))
+pub fault_or_none : {R F : Type 0} (status : Status R F) → (failed_call status ≡ None) ⊎ ((call : StoreCall) × (status ≡ StoreFault call))
 fault_or_none Done = inl refl
 fault_or_none Usage = inl refl
 fault_or_none (Refused refusal) = inl refl
@@ -65,8 +65,8 @@ fault_or_none (NotBuilt part) = inl refl
 fault_or_none (StoreFault call) = inr (call, refl)
 fault_or_none Memory = inl refl
 
-pub counted_none : {R F : Type 0} (status : Status R F) (faults : Faults) → fault_of status ≡ None → counted (fault_of status) faults ≡ faults
-counted_none status faults e = ap (λ (o : Option StoreCall). counted o faults) e
+pub counted_none : {R F : Type 0} (status : Status R F) (faults : Faults) → failed_call status ≡ None → counts_after (failed_call status) faults ≡ faults
+counted_none status faults e = ap (λ (o : Option StoreCall). counts_after o faults) e
 
-pub counted_call : {R F : Type 0} (status : Status R F) (call : StoreCall) (faults : Faults) → status ≡ StoreFault call → counted (fault_of status) faults ≡ one_more call faults
-counted_call {R} {F} status call faults e = ap (λ (s : Status R F). counted (fault_of s) faults) e
+pub counted_call : {R F : Type 0} (status : Status R F) (call : StoreCall) (faults : Faults) → status ≡ StoreFault call → counts_after (failed_call status) faults ≡ one_more call faults
+counted_call {R} {F} status call faults e = ap (λ (s : Status R F). counts_after (failed_call s) faults) e

@@ -4,9 +4,9 @@ use Rattle.std.specs.Prelude.{ℕ, ◌≡◌, ◌≤◌, List, length, Option, S
 use Rattle.std.proofs.Common.{inl, inr, sym, ◌∙◌, ap, subst}
 use Rattle.pf_io.specs.Store.{Files, Told}
 use Rattle.command_frame.specs.Effects.{CarriesOut, Leaves, LeavesFiles, LeavesSaid, IsStopped, HasWritten, HasBegun, IsToWrite, IsToSpeak}
-use Rattle.command_frame.specs.Reading.{Reads, Answers, Interprets, IsItself, ending_of, failing_of}
+use Rattle.command_frame.specs.Reading.{ReadsInput, Answers, Interprets, IsItself, ending_of, failing_of}
 use Rattle.command_frame.specs.Standing.{Standing, IfBoth, IsKept}
-use Rattle.command_frame.specs.Status.{EndsReading, fault_of, counted}
+use Rattle.command_frame.specs.Status.{EndsReading, failed_call, counts_after}
 use Rattle.command_frame.specs.Verdict.{Verdict, lacks, stops, writes, speaks, After, AfterText, Within}
 use Rattle.command_frame.specs.declared.status.Status.{Status}
 use Rattle.command_frame.specs.declared.status.Status.TheVariants.{Done, Usage, Refused, Numeric, Lists, NotBuilt, StoreFault, Memory}
@@ -98,7 +98,7 @@ carried_from : {R F : Type 0} (E D : Status R F → Type 0) (M N : Files → Ver
 carried_from E D M N status old mid new ends more kept counts steady h = record {
   ends = ends h.ends;
   left = left_from M N status old.told mid.told new.told more kept h.left;
-  counts = h.counts ∙ ap (counted (fault_of status)) counts;
+  counts = h.counts ∙ ap (counts_after (failed_call status)) counts;
   stays_steady = λ is. h.stays_steady (steady is);
   steady = λ is call e. let lacking = h.steady (steady is) call e in (lacking.0, lacks_from M N old.told mid.told more kept lacking.1);
 }
@@ -119,14 +119,14 @@ carried_as_more {R} {F} E D M N status old new ends more h =
 
 -- a command that ends before it calls its store: with the status of its verdict, or for want of memory
 pub carried_at_once : {R F : Type 0} (E : Status R F → Type 0) (M : Files → Verdict R F → Type 0) (status : Status R F) (old : Standing)
-    → E status → ((files : Files) → LeavesFiles (M files) status files files) → ((files : Files) (said : List ℕ) → LeavesSaid (M files) status said said) → fault_of status ≡ None
+    → E status → ((files : Files) → LeavesFiles (M files) status files files) → ((files : Files) (said : List ℕ) → LeavesSaid (M files) status said said) → failed_call status ≡ None
     → CarriesOut E M status old old
 carried_at_once {R} {F} E M status old ends files said none = record {
   ends = ends;
   left = left old.told;
-  counts = sym (ap (λ (o : Option StoreCall). counted o old.faults) none);
+  counts = sym (ap (λ (o : Option StoreCall). counts_after o old.faults) none);
   stays_steady = λ is. is;
-  steady = λ is call e. let other = ap fault_of e in cc;
+  steady = λ is call e. let other = ap failed_call e in cc;
 } where
   left : (o : Option Told) → IfBoth o o (Leaves M status)
   left None = tt
@@ -142,11 +142,11 @@ value_there {X} {A} {R} {F} Means view next (Some text) answer x is h =
 -- the input was read, and the command goes on with its value
 pub goes_on_after : {X A R F : Type 0} (E : Status R F → Type 0) (Means : List ℕ → Result A R → Type 0) (view : X → A) (name : List ℕ) (next : Files → A → Verdict R F → Type 0)
     (answer : Result X (Status R F)) (x : X) (status : Status R F) (old mid new : Standing)
-    → answer ≡ Ok x → Reads Means view name answer old mid → CarriesOut E (λ files. next files (view x)) status mid new
+    → answer ≡ Ok x → ReadsInput Means view name answer old mid → CarriesOut E (λ files. next files (view x)) status mid new
     → CarriesOut E (λ files. After Means files name (next files)) status old new
 goes_on_after {X} {A} {R} {F} E Means view name next answer x status old mid new is read h =
     carried_from E E (λ files. next files (view x)) (λ files. After Means files name (next files)) status old mid new (λ ends. ends)
-    (follows old.told read.answers) read.kept (read.counts ∙ ap (λ (a : Result X (Status R F)). counted (failing_of a) old.faults) is) read.stays_steady h
+    (follows old.told read.answers) read.kept (read.counts ∙ ap (λ (a : Result X (Status R F)). counts_after (failing_of a) old.faults) is) read.stays_steady h
   where
     follows : (o : Option Told) → IfSome o (λ t. Answers Means view (t.files name) answer) → IfSome o (λ t. Implies (next t.files (view x)) (After Means t.files name (next t.files)))
     follows None a = tt
@@ -194,14 +194,14 @@ lacks_after Means next (Some text) e = cc
 
 pub stops_after : {X A R F : Type 0} (E : Status R F → Type 0) (Means : List ℕ → Result A R → Type 0) (view : X → A) (name : List ℕ) (next : Files → A → Verdict R F → Type 0)
     (answer : Result X (Status R F)) (status : Status R F) (old new : Standing)
-    → ((s : Status R F) → EndsReading s → E s) → answer ≡ Err status → Reads Means view name answer old new
+    → ((s : Status R F) → EndsReading s → E s) → answer ≡ Err status → ReadsInput Means view name answer old new
     → CarriesOut E (λ files. After Means files name (next files)) status old new
 stops_after {X} {A} {R} {F} E Means view name next answer status old new may is read =
     let ends : EndsReading status = subst (λ (a : Result X (Status R F)). IfSome (ending_of a) EndsReading) is read.ends in
     record {
       ends = may status ends;
       left = left old.told new.told ends read.answers read.kept;
-      counts = read.counts ∙ ap (λ (a : Result X (Status R F)). counted (failing_of a) old.faults) is;
+      counts = read.counts ∙ ap (λ (a : Result X (Status R F)). counts_after (failing_of a) old.faults) is;
       stays_steady = read.stays_steady;
       steady = λ steady call e. let lacking = read.steady steady call (is ∙ ap Err e) in (lacking.0, lacking_told old.told lacking.1);
     }
@@ -233,12 +233,12 @@ fails_there limit large Means view look there (StoreFault Say) h = h
 fails_there limit large Means view look there Memory h = h
 
 pub load_fails : {X Y A R F : Type 0} (limit : ℕ) (large : R) (Means : List ℕ → Result A R → Type 0) (view : X → List ℕ) (look : Y → A) (name : List ℕ) (status : Status R F) (loaded : Result X (Status R F)) (old new : Standing)
-    → loaded ≡ Err status → Reads (Within limit large IsItself) view name loaded old new → Reads (Within limit large Means) look name (Err status) old new
+    → loaded ≡ Err status → ReadsInput (Within limit large IsItself) view name loaded old new → ReadsInput (Within limit large Means) look name (Err status) old new
 load_fails {X} {Y} {A} {R} {F} limit large Means view look name status loaded old new is read = record {
   ends = subst (λ (a : Result X (Status R F)). IfSome (ending_of a) EndsReading) is read.ends;
   kept = read.kept;
   answers = answers old.told read.answers;
-  counts = read.counts ∙ ap (λ (a : Result X (Status R F)). counted (failing_of a) old.faults) is;
+  counts = read.counts ∙ ap (λ (a : Result X (Status R F)). counts_after (failing_of a) old.faults) is;
   stays_steady = read.stays_steady;
   steady = λ steady call e. let same : status ≡ StoreFault call = cc in read.steady steady call (is ∙ ap Err same);
 } where
@@ -284,14 +284,14 @@ interprets_ends Means look text (Err Memory) m = (tt, refl)
 
 -- an input is read where its text was loaded, and then read
 pub load_then_read : {X Y A R F : Type 0} (limit : ℕ) (large : R) (Means : List ℕ → Result A R → Type 0) (view : X → List ℕ) (look : Y → A) (name : List ℕ) (x : X) (loaded : Result X (Status R F)) (answer : Result Y (Status R F)) (old new : Standing)
-    → loaded ≡ Ok x → Reads (Within limit large IsItself) view name loaded old new → Interprets Means look (view x) answer → Reads (Within limit large Means) look name answer old new
+    → loaded ≡ Ok x → ReadsInput (Within limit large IsItself) view name loaded old new → Interprets Means look (view x) answer → ReadsInput (Within limit large Means) look name answer old new
 load_then_read {X} {Y} {A} {R} {F} limit large Means view look name x loaded answer old new is read m =
     let ends = interprets_ends Means look (view x) answer m in
     record {
       ends = ends.0;
       kept = read.kept;
       answers = answers old.told read.answers;
-      counts = read.counts ∙ ap (λ (a : Result X (Status R F)). counted (failing_of a) old.faults) is ∙ sym (ap (λ (o : Option StoreCall). counted o old.faults) ends.1);
+      counts = read.counts ∙ ap (λ (a : Result X (Status R F)). counts_after (failing_of a) old.faults) is ∙ sym (ap (λ (o : Option StoreCall). counts_after o old.faults) ends.1);
       stays_steady = read.stays_steady;
       steady = λ steady call e. let failing = ap failing_of e in let none = ends.1 in cc;
     }

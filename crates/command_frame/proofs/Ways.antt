@@ -2,9 +2,9 @@
 use Rattle.std.proofs.Common.{ℕ, ◌≡◌, ◌≢◌, ◌⊎◌, inl, inr, List, [], Option, Some, IsSomeAnd, refl, sym, ap, subst, ◌∙◌}
 use Rattle.std.proofs.lemmas.List.{append-nil}
 use Rattle.pf_io.specs.Store.{Files}
-use Rattle.command_frame.specs.Clauses.{IsUnlessStopped, KeepsContents, WritesNothing, IsNoOutput, IsAccepted, IsOutputDue, HasOutput, HasFront}
+use Rattle.command_frame.specs.Clauses.{IsUnlessStopped, KeepsContents, WritesNothing, IsNoOutput, IsAccepted, IsOutputDue, HasOutput, HasOutputFront}
 use Rattle.command_frame.specs.Effects.{LeavesFiles, IsStopped, HasWritten, IsToWrite, HasBegun, IsToSpeak}
-use Rattle.command_frame.specs.Standing.{Begins}
+use Rattle.command_frame.specs.Standing.{IsFrontOf}
 use Rattle.command_frame.specs.Status.{IsRefusal, IsLast}
 use Rattle.command_frame.specs.Verdict.{Verdict, stops, writes, AtMostOne}
 use Rattle.command_frame.specs.declared.status.Status.{Status}
@@ -160,12 +160,12 @@ module _ {R F : Type 0} (M : Verdict R F → Type 0) (status : Status R F) (old 
     output_of l (broken e b) = absurd (not_broken IsLast (λ x. x) (λ x. x) e l)
     output_of l (unsaid e s k) = absurd (at IsLast (StoreFault Say) e l)
 
-    front_of : HasBegun M old new → HasFront M new
+    front_of : HasBegun M old new → HasOutputFront M new
     front_of b = λ out text last m.
         let e = same_name b.verdict.out b.verdict.text b.verdict.last out text last b.verdict.meant m in
-        subst (λ (found : Option (List ℕ)). IsSomeAnd found (λ front. Begins front text)) (sym (ap new (sym e.0) ∙ b.written.there)) (b.rest, sym e.1 ∙ b.split)
+        subst (λ (found : Option (List ℕ)). IsSomeAnd found (λ front. IsFrontOf front text)) (sym (ap new (sym e.0) ∙ b.written.there)) (b.rest, sym e.1 ∙ b.split)
 
-    pub write_fault_of : status ≡ StoreFault Write → Way M status old new → HasFront M new
+    pub write_fault_of : status ≡ StoreFault Write → Way M status old new → HasOutputFront M new
     write_fault_of w (stopped named s) = λ out text last m. let e = one _ _ s.meant m in cc
     write_fault_of w (wrote last h) = absurd (at IsLast (StoreFault Write) w last)
     write_fault_of w (spoke d s k) = cc
@@ -174,7 +174,7 @@ module _ {R F : Type 0} (M : Verdict R F → Type 0) (status : Status R F) (old 
     write_fault_of w (broken d b) = front_of b
     write_fault_of w (unsaid d s k) = cc
 
-    pub memory_of : status ≡ Memory → Way M status old new → (new ≡ old) ⊎ (IsOutputDue M × HasFront M new)
+    pub memory_of : status ≡ Memory → Way M status old new → (new ≡ old) ⊎ (IsOutputDue M × HasOutputFront M new)
     memory_of m (stopped named s) = inl s.kept
     memory_of m (wrote last h) = absurd (at IsLast Memory m last)
     memory_of m (spoke d s k) = inl k

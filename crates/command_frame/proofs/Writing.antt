@@ -7,8 +7,8 @@ use Rattle.std.proofs.lemmas.Slice.Eq.{bytes_eq-Decides}
 use Rattle.pf_io.specs.Store.{Files, Told, after_create, after_write, with_contents, files_after_write}
 use Rattle.command_frame.specs.Effects.{Leaves, LeavesFiles, LeavesSaid, HasWritten, HasBegun}
 use Rattle.command_frame.specs.Output.{appended, Appends}
-use Rattle.command_frame.specs.Standing.{IfBoth, IsWritten, Begins}
-use Rattle.command_frame.specs.Status.{IsLast, EndsWriting, fault_of}
+use Rattle.command_frame.specs.Standing.{IfBoth, IsWritten, IsFrontOf}
+use Rattle.command_frame.specs.Status.{IsLast, EndsWriting, failed_call}
 use Rattle.command_frame.specs.Verdict.{Verdict, writes}
 use Rattle.command_frame.specs.declared.status.Status.{Status}
 use Rattle.command_frame.specs.declared.status.Status.TheVariants.{Done, Usage, Refused, Numeric, Lists, NotBuilt, StoreFault, Memory}
@@ -104,7 +104,7 @@ wrote out texts status (Some t) mid new last made e =
       said = silent (WritesThis out (concat texts) status t.files) status t.said _ out (concat texts) last refl all.said;
     })
 
-begun : {R F : Type 0} (out : List ℕ) (texts pieces : List (List ℕ)) (last : Status R F) (t : Told) → Begins (concat pieces) (concat texts)
+begun : {R F : Type 0} (out : List ℕ) (texts pieces : List (List ℕ)) (last : Status R F) (t : Told) → IsFrontOf (concat pieces) (concat texts)
     → HasBegun (WritesThis out (concat texts) last t.files) t.files (appended pieces (after_create out t)).files
 begun out texts pieces last t begins = record {
   verdict = record { out = out; text = concat texts; last = last; meant = refl };
@@ -115,7 +115,7 @@ begun out texts pieces last t begins = record {
 }
 
 broke : {R F : Type 0} (out : List ℕ) (texts pieces : List (List ℕ)) (last status : Status R F) (old mid new : Option Told)
-    → (status ≡ StoreFault Write) ⊎ (status ≡ Memory) → Begins (concat pieces) (concat texts)
+    → (status ≡ StoreFault Write) ⊎ (status ≡ Memory) → IsFrontOf (concat pieces) (concat texts)
     → mid ≡ option_map (after_create out) old → new ≡ option_map (appended pieces) mid → IfBoth old new (Leaves (WritesThis out (concat texts) last) status)
 broke out texts pieces last status None mid new how begins made e = tt
 broke {R} {F} out texts pieces last status (Some t) mid new how begins made e =
@@ -151,5 +151,5 @@ ends {R} {F} texts last status mid new h = elim h [
   | inr some ↦ elim some.0 [ inl e ↦ subst (λ (s : Status R F). EndsWriting s) (sym e) tt | inr e ↦ subst (λ (s : Status R F). EndsWriting s) (sym e) tt ]
 ]
 
-pub no_fault : {R F : Type 0} (status : Status R F) (call : StoreCall) → fault_of status ≡ None → status ≡ StoreFault call → ⊥
-no_fault status call none e = let other = ap fault_of e in cc
+pub no_fault : {R F : Type 0} (status : Status R F) (call : StoreCall) → failed_call status ≡ None → status ≡ StoreFault call → ⊥
+no_fault status call none e = let other = ap failed_call e in cc

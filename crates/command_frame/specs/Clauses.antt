@@ -1,7 +1,7 @@
 -- What a command keeps to from its call to its return: each clause over its verdict on the contents at entry.
 use Rattle.std.specs.Prelude.{ℕ, ◌≡◌, ◌≢◌, ◌+◌, ◌<◌, ◌⊎◌, List, ◌++◌, IsTrue, IfSome, IsSomeAnd, Some}
 use Rattle.pf_io.specs.Store.{Files}
-use Rattle.command_frame.specs.Standing.{Standing, IfTold, Begins}
+use Rattle.command_frame.specs.Standing.{Standing, IfTold, IsFrontOf}
 use Rattle.command_frame.specs.Status.{IsRefusal, IsLast, count_of}
 use Rattle.command_frame.specs.Verdict.{Verdict, lacks, stops, writes, speaks}
 use Rattle.command_frame.specs.declared.status.Status.{Status}
@@ -81,10 +81,10 @@ HasOutput {R} {F} Means result files =
     (out text : List ℕ) (last : Status R F) → Means (writes out text last) → (last ≡ result) × (files out ≡ Some text)
 
 -- bytes that begin the text of the verdict stand under its name
-abbrev pub HasFront : {R F : Type 0} → (Verdict R F → Type 0) → Files → Type 0
-HasFront {R} {F} Means files =
+abbrev pub HasOutputFront : {R F : Type 0} → (Verdict R F → Type 0) → Files → Type 0
+HasOutputFront {R} {F} Means files =
     (out text : List ℕ) (last : Status R F) → Means (writes out text last)
-    → IsSomeAnd (files out) (λ front. Begins front text)
+    → IsSomeAnd (files out) (λ front. IsFrontOf front text)
 
 -- what a command that is done has said: the text of its verdict, or nothing where it wrote one
 pub record HasAnswered {R F : Type 0} (Means : Verdict R F → Type 0) (old new : List ℕ) : Type 0 where
@@ -111,9 +111,9 @@ pub record Concludes {R F : Type 0} (MayEnd : Status R F → Type 0) (Means : Fi
   pub others_kept : IfTold old new (λ t u. (name : List ℕ) → IsNoOutput (Means t.files) name
       → u.files name ≡ t.files name)
   pub output : IsLast result → IfTold old new (λ t u. HasOutput (Means t.files) result u.files)
-  pub write_fault : result ≡ StoreFault Write → IfTold old new (λ t u. HasFront (Means t.files) u.files)
+  pub write_fault : result ≡ StoreFault Write → IfTold old new (λ t u. HasOutputFront (Means t.files) u.files)
   pub memory : result ≡ Memory → IfTold old new (λ t u.
-      (u.files ≡ t.files) ⊎ (IsOutputDue (Means t.files) × HasFront (Means t.files) u.files))
+      (u.files ≡ t.files) ⊎ (IsOutputDue (Means t.files) × HasOutputFront (Means t.files) u.files))
   pub fault_rose : (call : StoreCall) → result ≡ StoreFault call → count_of call old.faults < count_of call new.faults
   pub create_and_write_only : (result ≡ StoreFault Create) ⊎ (result ≡ StoreFault Write)
       → IfSome old.told (λ t. IsOutputDue (Means t.files))

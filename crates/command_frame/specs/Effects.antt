@@ -3,7 +3,7 @@ use Rattle.std.specs.Prelude.{ℕ, ◌≡◌, ◌≢◌, ◌⊎◌, List, ◌++�
 use Rattle.std.specs.Prelude.{option_map}
 use Rattle.pf_io.specs.Store.{Files, Told, after_say, one_more_say}
 use Rattle.command_frame.specs.Standing.{Standing, IfTold, IsWritten}
-use Rattle.command_frame.specs.Status.{fault_of, counted}
+use Rattle.command_frame.specs.Status.{failed_call, counts_after}
 use Rattle.command_frame.specs.Verdict.{Verdict, lacks, stops, writes, speaks}
 use Rattle.command_frame.specs.declared.status.Status.{Status}
 use Rattle.command_frame.specs.declared.status.Status.TheVariants.{Done, Usage, Refused, Numeric, Lists, NotBuilt}
@@ -96,7 +96,7 @@ pub record CarriesOut {R F : Type 0} (MayEnd : Status R F → Type 0) (Means : F
     (status : Status R F) (old new : Standing) : Type 0 where
   pub ends : MayEnd status
   pub left : IfTold old new (Leaves Means status)
-  pub counts : new.faults ≡ counted (fault_of status) old.faults
+  pub counts : new.faults ≡ counts_after (failed_call status) old.faults
   pub stays_steady : IsTrue old.is_steady → IsTrue new.is_steady
   pub steady : IsTrue old.is_steady → (call : StoreCall) → status ≡ StoreFault call
       → (call ≡ Open) × IfSome old.told (λ t. Means t.files lacks)

@@ -2,7 +2,7 @@
 use Rattle.std.specs.Prelude.{ℕ, ◌≡◌, ◌⊎◌, List, [], ◌∷◌, Option, option_map}
 use Rattle.std.specs.List.{concat}
 use Rattle.pf_io.specs.Store.{Told, after_write}
-use Rattle.command_frame.specs.Standing.{Begins}
+use Rattle.command_frame.specs.Standing.{IsFrontOf}
 use Rattle.command_frame.specs.Status.{IsLast}
 use Rattle.command_frame.specs.declared.output.Next.{Next}
 use Rattle.command_frame.specs.declared.output.Next.TheVariants.{Piece, End, Memory}
@@ -26,4 +26,4 @@ abbrev pub Appends : {R F : Type 0} → List (List ℕ) → Status R F → Statu
 Appends texts last result old new =
     ((result ≡ last) × IsLast result × (new ≡ option_map (appended texts) old))
     ⊎ (((result ≡ StoreFault Write) ⊎ (result ≡ NoMemory))
-    × (pieces : List (List ℕ)) × Begins (concat pieces) (concat texts) × (new ≡ option_map (appended pieces) old))
+    × (pieces : List (List ℕ)) × IsFrontOf (concat pieces) (concat texts) × (new ≡ option_map (appended pieces) old))

@@ -1,7 +1,7 @@
 -- What the reading of an input answers, and what it leaves.
 use Rattle.std.specs.Prelude.{ℕ, ◌≡◌, List, Option, Some, None, IsTrue, IfSome, IsSomeAnd, Result, Ok, Err}
 use Rattle.command_frame.specs.Standing.{Standing, IfTold, IsKept}
-use Rattle.command_frame.specs.Status.{EndsReading, counted, fault_of}
+use Rattle.command_frame.specs.Status.{EndsReading, counts_after, failed_call}
 use Rattle.command_frame.specs.declared.status.Status.{Status}
 use Rattle.command_frame.specs.declared.status.Status.TheVariants.{Done, Usage, Refused, Numeric, Lists, NotBuilt}
 use Rattle.command_frame.specs.declared.status.Status.TheVariants.{StoreFault, Memory}
@@ -49,16 +49,16 @@ ending_of (Err status) = Some status
 
 abbrev pub failing_of : {X R F : Type 0} → Result X (Status R F) → Option StoreCall
 failing_of (Ok x) = None
-failing_of (Err status) = fault_of status
+failing_of (Err status) = failed_call status
 
 -- an input is read: all else stays, and a method failed exactly where the answer says so, over a steady store only
 -- where the input isn't there
-pub record Reads {X A R F : Type 0} (Means : List ℕ → Result A R → Type 0) (view : X → A) (name : List ℕ)
+pub record ReadsInput {X A R F : Type 0} (Means : List ℕ → Result A R → Type 0) (view : X → A) (name : List ℕ)
     (answer : Result X (Status R F)) (old new : Standing) : Type 0 where
   pub ends : IfSome (ending_of answer) EndsReading
   pub kept : IfTold old new IsKept
   pub answers : IfSome old.told (λ t. Answers Means view (t.files name) answer)
-  pub counts : new.faults ≡ counted (failing_of answer) old.faults
+  pub counts : new.faults ≡ counts_after (failing_of answer) old.faults
   pub stays_steady : IsTrue old.is_steady → IsTrue new.is_steady
   pub steady : IsTrue old.is_steady → (call : StoreCall) → answer ≡ Err (StoreFault call)
       → (call ≡ Open) × IfSome old.told (λ t. t.files name ≡ None)

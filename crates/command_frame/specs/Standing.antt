@@ -31,5 +31,5 @@ pub record IsWritten (name text : List ℕ) (old new : Files) : Type 0 where
   pub others : (other : List ℕ) → other ≢ name → new other ≡ old other
 
 -- one text begins another
-abbrev pub Begins : List ℕ → List ℕ → Type 0
-Begins front text = (rest : List ℕ) × (text ≡ front ++ rest)
+abbrev pub IsFrontOf : List ℕ → List ℕ → Type 0
+IsFrontOf front text = (rest : List ℕ) × (text ≡ front ++ rest)

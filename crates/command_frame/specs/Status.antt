@@ -8,15 +8,15 @@ use Rattle.command_frame.specs.declared.status.StoreCall.{StoreCall}
 use Rattle.command_frame.specs.declared.status.StoreCall.TheVariants.{Open, Read, Create, Write, Say}
 
 -- the method that failed, if the status is that one did
-abbrev pub fault_of : {R F : Type 0} → Status R F → Option StoreCall
-fault_of Done = None
-fault_of Usage = None
-fault_of (Refused refusal) = None
-fault_of (Numeric step fault) = None
-fault_of (Lists step count) = None
-fault_of (NotBuilt part) = None
-fault_of (StoreFault call) = Some call
-fault_of Memory = None
+abbrev pub failed_call : {R F : Type 0} → Status R F → Option StoreCall
+failed_call Done = None
+failed_call Usage = None
+failed_call (Refused refusal) = None
+failed_call (Numeric step fault) = None
+failed_call (Lists step count) = None
+failed_call (NotBuilt part) = None
+failed_call (StoreFault call) = Some call
+failed_call Memory = None
 
 -- how often a method has failed
 abbrev pub count_of : StoreCall → Faults → ℕ
@@ -34,9 +34,9 @@ one_more Write faults = one_more_write faults
 one_more Say faults = one_more_say faults
 
 -- the counts, one more where a method failed
-abbrev pub counted : Option StoreCall → Faults → Faults
-counted None faults = faults
-counted (Some call) faults = one_more call faults
+abbrev pub counts_after : Option StoreCall → Faults → Faults
+counts_after None faults = faults
+counts_after (Some call) faults = one_more call faults
 
 -- each count is low enough for one fault of a command and one of its saying
 pub record HasRoom (faults : Faults) : Type 0 where

@@ -1,5 +1,5 @@
 ghost use Rattle.std.specs.Prelude.{◌≤◌, ◌^◌, length, IfOk};
-ghost use Rattle.command_frame.specs.Reading.{IsItself, Reads};
+ghost use Rattle.command_frame.specs.Reading.{IsItself, ReadsInput};
 ghost use Rattle.command_frame.specs.Standing.{standing};
 ghost use Rattle.command_frame.specs.Status.{HasRoom};
 ghost use Rattle.command_frame.specs.Verdict.{Within};
@@ -19,7 +19,7 @@ pub fn load<R: Copy, F, S: Store>(
     requires limit { limit ≤ 2 ^ 28 }
     requires room { HasRoom (S.faults store.old) }
 
-    ensures reads { Reads (Within limit too_large IsItself) (λ v. v.items) name.now result
+    ensures reads { ReadsInput (Within limit too_large IsItself) (λ v. v.items) name.now result
         (standing (S.told store.old) (S.faults store.old) (S.is_steady store.old))
         (standing (S.told store.new) (S.faults store.new) (S.is_steady store.new)) }
     ensures within { IfOk result (λ v. length v.items ≤ limit) }

@@ -3,7 +3,7 @@ ghost use Rattle.std.specs.List.{concat};
 ghost use Rattle.command_frame.specs.Effects.{CarriesOut};
 ghost use Rattle.command_frame.specs.Output.{Gives, Appends};
 ghost use Rattle.command_frame.specs.Standing.{standing};
-ghost use Rattle.command_frame.specs.Status.{EndsWriting, HasRoom, counted, fault_of};
+ghost use Rattle.command_frame.specs.Status.{EndsWriting, HasRoom, counts_after, failed_call};
 ghost use Rattle.command_frame.specs.Verdict.{writes};
 ghost use Rattle.command_frame.specs.declared.status.Status.{Status};
 
@@ -61,9 +61,9 @@ fn append<R, F, P: Pieces<R, F>, S: Store>(
     requires { (S.faults store.old).writes < 2 ^ 64 - 1 }
 
     ensures appended { Appends (P.texts pieces.old) (P.last pieces.old) result (S.told store.old) (S.told store.new) }
-    ensures counts { S.faults store.new ≡ counted (fault_of result) (S.faults store.old) }
+    ensures counts { S.faults store.new ≡ counts_after (failed_call result) (S.faults store.old) }
     ensures stays_steady { IsTrue (S.is_steady store.old) → IsTrue (S.is_steady store.new) }
-    ensures steady { IsTrue (S.is_steady store.old) → IsTrue (S.has_sink store.old) → fault_of result ≡ None }
+    ensures steady { IsTrue (S.is_steady store.old) → IsTrue (S.has_sink store.old) → failed_call result ≡ None }
 {
     loop {
         match pieces.next(alloc) {

@@ -5,7 +5,7 @@ use Rattle.std.specs.List.{list_all}
 use Rattle.std.specs.Result.{result_ok}
 use Rattle.std.specs.Str.Parse.{ParsesUnsigned, digits_value}
 use Rattle.std.proofs.lemmas.Str.Parse.{IsDigitsTest, IsNumeralModel, numerals_by_value, parse_digits}
-use Rattle.command_line.specs.Number.{number_of}
+use Rattle.command_line.specs.Number.{numeral_value}
 
 tells_digits : IsDigitsTest (λ ds. list_all is_ascii_digit ds ≡ true)
 tells_digits = search rules
@@ -20,7 +20,7 @@ none_where false b n h = refl
 
 -- a word of digits is parsed as the number that it spells
 pub parsed_digits : {E : Type 0} (word : List ℕ) (parsed : Result ℕ E) → ParsesUnsigned 64 10 word parsed → list_all is_ascii_digit word ≡ true
-    → result_ok parsed ≡ number_of word
+    → result_ok parsed ≡ numeral_value word
 parsed_digits {E} word (Ok n) h digits =
     let says = parse_digits own {E = E} 64 word (Ok n) h digits in
     rw (digits, lt-ltb 0 (length word) says.0.0, lt-ltb (digits_value 10 word) (2 ^ 64) says.0.1) (ap Some says.1)
@@ -30,5 +30,5 @@ parsed_digits {E} word (Err e) h digits =
     says (ltb-true 0 (length word) some, ltb-true (digits_value 10 word) (2 ^ 64) small)))
 
 -- a word with another byte is no number
-pub other_words : (word : List ℕ) → list_all is_ascii_digit word ≡ false → None ≡ number_of word
+pub other_words : (word : List ℕ) → list_all is_ascii_digit word ≡ false → None ≡ numeral_value word
 other_words word h = rw h refl

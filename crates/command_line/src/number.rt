@@ -1,11 +1,11 @@
 ghost use Rattle.std.specs.Prelude.{◌≡◌};
 ghost use Rattle.std.specs.Char.{is_ascii_digit};
 ghost use Rattle.std.specs.List.{list_all};
-ghost use Rattle.command_line.specs.Number.{number_of, number_within};
+ghost use Rattle.command_line.specs.Number.{numeral_value, number_within};
 
 // The number that a word of digits spells. A sign, which `parse` would read, is no digit.
 fn number(word: &str) -> Option<u64>
-    ensures { result ≡ number_of word.now }
+    ensures { result ≡ numeral_value word.now }
 {
     if has_digits_alone(word.as_bytes()) {
         word.parse().ok()

@@ -9,13 +9,13 @@ use Rattle.deck_file.specs.declared.deck.Deck.{Deck}
 use Rattle.deck_file.specs.declared.keyword.Keyword.TheVariants as keys
 use Rattle.deck_file.specs.declared.limits.TheConstants.{MOST_DT, MOST_REUSE, MOST_STEPS}
 use Rattle.deck_file.specs.Laws.{IsWithinLimits}
-use Rattle.deck_file.specs.Reading.{Spells}
+use Rattle.deck_file.specs.Reading.{SpellsDeck}
 use Rattle.deck_file.specs.Settings.{value_in}
 use Rattle.deck_file.specs.Values.{angle_of, division_of}
 use Rattle.deck_file.proofs.LimitLemmas.{angle_of-within, division_of-within, set_within}
 use Rattle.deck_file.proofs.MadeLemmas.{form_in, given_forms, makes}
 
-pub kept_limits : (text : List ℕ) (deck : Deck) → Spells text deck → IsWithinLimits deck
+pub kept_limits : (text : List ℕ) (deck : Deck) → SpellsDeck text deck → IsWithinLimits deck
 kept_limits text deck h =
     let settings = h.settings in
     let made = makes settings deck h.deck_is in
@@ -48,7 +48,7 @@ angle_set (Some value) = go (angle_of value) (λ angle. angle_of-within value an
     go None within = record { numerator_fits = lit≤ tt; denominator_positive = lit≤ tt; denominator_fits = lit≤ tt }
     go (Some angle) within = within angle refl
 
-pub kept_angle : (text : List ℕ) (deck : Deck) → Spells text deck → IsAngle deck.theta.a deck.theta.b
+pub kept_angle : (text : List ℕ) (deck : Deck) → SpellsDeck text deck → IsAngle deck.theta.a deck.theta.b
 kept_angle text deck h =
     subst (λ (d : Deck). IsAngle d.theta.a d.theta.b) (makes h.settings deck h.deck_is).whole (angle_set (value_in h.settings keys.Theta))
 
@@ -60,7 +60,7 @@ grid_set (Some value) one within = go (division_of value) (λ grid. division_of-
     go None read_within = within
     go (Some grid) read_within = read_within grid refl
 
-pub kept_grid : (text : List ℕ) (deck : Deck) → Spells text deck → IsDivision deck.grid
+pub kept_grid : (text : List ℕ) (deck : Deck) → SpellsDeck text deck → IsDivision deck.grid
 kept_grid text deck h =
     subst (λ (d : Deck). IsDivision d.grid) (makes h.settings deck h.deck_is).whole
     (grid_set (value_in h.settings keys.Grid) _ (record { some_x = lit≤ tt; some_y = lit≤ tt; some_z = lit≤ tt; few = lit≤ tt }))

@@ -10,7 +10,7 @@ use Rattle.pf_model.specs.declared.limits.TheConstants.{MOST_RANKS}
 use Rattle.text_lines.specs.declared.number.NumberFault.{NumberFault}
 use Rattle.text_lines.specs.declared.number.NumberFault.TheVariants.{NoNumber, OutOfRange}
 use Rattle.text_lines.specs.Numbers.{digits_in, is_digits}
-use Rattle.deck_file.specs.Values.{angle_of, angle_with, cut_at, division_of, division_with, number_of, slabs}
+use Rattle.deck_file.specs.Values.{angle_of, angle_with, cut_at, division_of, division_with, number_within, slabs}
 
 le_from : (a b : ℕ) → nat_le a b ≡ true → a ≤ b
 le_from a b h = grind (arith, nat_tests)
@@ -28,7 +28,7 @@ digits_in-within least most value n = go (is_digits value) (nat_le least (digits
     go true false high l h e = cc
     go false low high l h e = cc
 
-pub number_of-within : (least most : ℕ) (value : List ℕ) (n : ℕ) → number_of least most value ≡ Some n → (least ≤ n) × (n ≤ most)
+pub number_of-within : (least most : ℕ) (value : List ℕ) (n : ℕ) → number_within least most value ≡ Some n → (least ≤ n) × (n ≤ most)
 number_of-within least most value n = go (nat_le (length value) 10) (digits_in least most value) refl
   where
     go : (short : Bool) (read : Result ℕ NumberFault) → digits_in least most value ≡ read → cond short (result_ok read) None ≡ Some n
@@ -39,17 +39,17 @@ number_of-within least most value n = go (nat_le (length value) 10) (digits_in l
 
 -- a number as it is set, or the default
 pub set_within : (least most default : ℕ) (value : Option (List ℕ)) → least ≤ default → default ≤ most
-    → (least ≤ unwrap_or (option_and_then (number_of least most) value) default) × (unwrap_or (option_and_then (number_of least most) value) default ≤ most)
+    → (least ≤ unwrap_or (option_and_then (number_within least most) value) default) × (unwrap_or (option_and_then (number_within least most) value) default ≤ most)
 set_within least most default None low high = (low, high)
-set_within least most default (Some value) low high = go (number_of least most value) refl
+set_within least most default (Some value) low high = go (number_within least most value) refl
   where
-    go : (n : Option ℕ) → number_of least most value ≡ n → (least ≤ unwrap_or n default) × (unwrap_or n default ≤ most)
+    go : (n : Option ℕ) → number_within least most value ≡ n → (least ≤ unwrap_or n default) × (unwrap_or n default ≤ most)
     go None e = (low, high)
     go (Some n) e = number_of-within least most value n e
 
 -- ---- angles
 
-angle_with-within : (x y : List ℕ) (a b : Option ℕ) (angle : ℕ × ℕ) → number_of 0 1024 x ≡ a → number_of 1 1024 y ≡ b
+angle_with-within : (x y : List ℕ) (a b : Option ℕ) (angle : ℕ × ℕ) → number_within 0 1024 x ≡ a → number_within 1 1024 y ≡ b
     → angle_with a b ≡ Some angle → IsAngle angle.0 angle.1
 angle_with-within x y None b angle p q e = cc
 angle_with-within x y (Some a) None angle p q e = cc
@@ -62,7 +62,7 @@ angle_with-within x y (Some a) (Some b) angle p q e =
 pub angle_of-within : (value : List ℕ) (angle : ℕ × ℕ) → angle_of value ≡ Some angle → IsAngle angle.0 angle.1
 angle_of-within value angle = go (cut_at 47 value)
   where
-    go : (parts : Option (List ℕ × List ℕ)) → option_and_then (λ p. angle_with (number_of 0 1024 p.0) (number_of 1 1024 p.1)) parts ≡ Some angle
+    go : (parts : Option (List ℕ × List ℕ)) → option_and_then (λ p. angle_with (number_within 0 1024 p.0) (number_within 1 1024 p.1)) parts ≡ Some angle
         → IsAngle angle.0 angle.1
     go None e = cc
     go (Some parts) e = angle_with-within parts.0 parts.1 _ _ angle refl refl e

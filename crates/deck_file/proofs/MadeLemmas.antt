@@ -8,7 +8,7 @@ use Rattle.deck_file.specs.declared.keyword.Keyword.{Keyword}
 use Rattle.deck_file.specs.declared.keyword.Keyword.TheVariants as keys
 use Rattle.deck_file.specs.Deck.{deck_of, deck_with, is_periodic, with_files, with_lists_built}
 use Rattle.deck_file.specs.Keywords.{is_same}
-use Rattle.deck_file.specs.Settings.{Gives, KeyValue, is_of_form, value_in}
+use Rattle.deck_file.specs.Settings.{GiveSettings, KeyValue, is_of_form, value_in}
 use Rattle.deck_file.proofs.KeywordLemmas.{is_same-Decides}
 
 -- lists are kept in an open box alone
@@ -54,7 +54,7 @@ HaveForms-more : (settings : List KeyValue) (s : KeyValue) → HaveForms setting
 HaveForms-more [] s each form = (form, tt)
 HaveForms-more (t ∷ settings) s each form = (each.0, HaveForms-more settings s each.1 form)
 
-pub given_forms : (start : List KeyValue) (lines : List FieldLine) (settings : List KeyValue) → Gives start lines settings → HaveForms start
+pub given_forms : (start : List KeyValue) (lines : List FieldLine) (settings : List KeyValue) → GiveSettings start lines settings → HaveForms start
     → HaveForms settings
 given_forms start [] settings given forms = subst HaveForms given forms
 given_forms start (line ∷ lines) settings given forms =

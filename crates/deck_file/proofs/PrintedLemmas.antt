@@ -20,7 +20,7 @@ use Rattle.deck_file.specs.declared.keyword.Keyword.TheVariants as keys
 use Rattle.deck_file.specs.declared.limits.TheConstants.{MOST_NAME}
 use Rattle.deck_file.specs.Keywords.{keyword_text}
 use Rattle.deck_file.specs.Printed.{angle_text, division_text, edge_text}
-use Rattle.deck_file.specs.Values.{angle_of, angle_with, cut_at, division_of, division_with, edge_of, is_name, is_visible, number_of, slabs}
+use Rattle.deck_file.specs.Values.{angle_of, angle_with, cut_at, division_of, division_with, edge_of, is_name, is_visible, number_within, slabs}
 
 -- ---- a value cut at a byte
 
@@ -75,7 +75,7 @@ module _ (digits_back : DigitsReadBack) where
   decimal_without : (byte : ℕ) → is_ascii_digit byte ≡ false → (n : ℕ) → n < 2 ^ 64 → AllByRecursion (λ b. (b == byte) ≡ false) (decimal n)
   decimal_without byte other n small = no_digit byte other (decimal n) (all_digits (decimal n) (digits_back n small).1)
 
-  pub number_of-decimal : (least most n : ℕ) → least ≤ n → n ≤ most → most < 10 ^ 10 → number_of least most (decimal n) ≡ Some n
+  pub number_of-decimal : (least most n : ℕ) → least ≤ n → n ≤ most → most < 10 ^ 10 → number_within least most (decimal n) ≡ Some n
   number_of-decimal least most n low high short =
       let small : n < 2 ^ 64 = omega arith in
       let below : n < 10 ^ 10 = omega arith in

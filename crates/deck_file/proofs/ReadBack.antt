@@ -11,9 +11,9 @@ use Rattle.deck_file.specs.declared.limits.TheConstants.{MOST_DT, MOST_REUSE, MO
 use Rattle.deck_file.specs.Deck.{deck_with, with_lists_built}
 use Rattle.deck_file.specs.Laws.{IsWithinLimits}
 use Rattle.deck_file.specs.Printed.{angle_text, deck_text, division_text, settings_of}
-use Rattle.deck_file.specs.Reading.{Spells}
-use Rattle.deck_file.specs.Settings.{Gives, KeyValue, fields_of, value_in}
-use Rattle.deck_file.specs.Values.{angle_of, division_of, number_of}
+use Rattle.deck_file.specs.Reading.{SpellsDeck}
+use Rattle.deck_file.specs.Settings.{GiveSettings, KeyValue, setting_fields, value_in}
+use Rattle.deck_file.specs.Values.{angle_of, division_of, number_within}
 use Rattle.deck_file.proofs.KeptLimits.{kept_angle, kept_grid, kept_limits}
 use Rattle.deck_file.proofs.MadeLemmas.{HaveForms, makes}
 use Rattle.deck_file.proofs.PrintedLemmas.{angle_of-text, division_of-text, edge_field, edge_of-text, joined_field, name_field, number_of-decimal, setting_line, slab_counts}
@@ -25,13 +25,13 @@ AreNew before (s ∷ settings) = (value_in before s.key ≡ None) × AreNew (bef
 
 -- numbered lines of settings give them
 given_lines : (before : List KeyValue) (number : ℕ) (settings : List KeyValue) → AreNew before settings → HaveForms settings
-    → Gives before (numbered_from number (map fields_of settings)) (before ++ settings)
+    → GiveSettings before (numbered_from number (map setting_fields settings)) (before ++ settings)
 unfolding AreNew
 given_lines before number [] new forms = sym (append-nil before)
 given_lines before number (s ∷ settings) new forms = (
   s,
   record { fields = refl; first = new.0; form = forms.0 },
-  subst (Gives (before ++ s ∷ []) (numbered_from (suc number) (map fields_of settings))) (append_assoc before (s ∷ []) settings)
+  subst (GiveSettings (before ++ s ∷ []) (numbered_from (suc number) (map setting_fields settings))) (append_assoc before (s ∷ []) settings)
       (given_lines (before ++ s ∷ []) (suc number) settings new.1 forms.1),
 )
 
@@ -42,7 +42,7 @@ new_keys deck = (refl, (refl, (refl, (refl, (refl, (refl, (refl, (refl, (refl, (
 of_form : {X : Type 0} (read : Option X) (x : X) → read ≡ Some x → is_some read ≡ true
 of_form read x is = ap is_some is
 
-module _ (digits_back : DigitsReadBack) (lines_back : WrittenLinesReadBack) (text : List ℕ) (deck : Deck) (h : Spells text deck) where
+module _ (digits_back : DigitsReadBack) (lines_back : WrittenLinesReadBack) (text : List ℕ) (deck : Deck) (h : SpellsDeck text deck) where
   limits : IsWithinLimits deck
   limits = kept_limits text deck h
 
@@ -52,16 +52,16 @@ module _ (digits_back : DigitsReadBack) (lines_back : WrittenLinesReadBack) (tex
   angle_is : angle_of (angle_text deck.theta.a deck.theta.b) ≡ Some (deck.theta.a, deck.theta.b)
   angle_is = angle_of-text digits_back deck.theta.a deck.theta.b (kept_angle text deck h)
 
-  group_is : number_of 1 MOST_GROUP (decimal deck.group) ≡ Some deck.group
+  group_is : number_within 1 MOST_GROUP (decimal deck.group) ≡ Some deck.group
   group_is = number_of-decimal digits_back 1 MOST_GROUP deck.group limits.some_group limits.small_group (omega arith)
 
-  steps_is : number_of 0 MOST_STEPS (decimal deck.steps) ≡ Some deck.steps
+  steps_is : number_within 0 MOST_STEPS (decimal deck.steps) ≡ Some deck.steps
   steps_is = number_of-decimal digits_back 0 MOST_STEPS deck.steps (omega arith) limits.few_steps (omega arith)
 
-  dt_is : number_of 1 MOST_DT (decimal deck.dt) ≡ Some deck.dt
+  dt_is : number_within 1 MOST_DT (decimal deck.dt) ≡ Some deck.dt
   dt_is = number_of-decimal digits_back 1 MOST_DT deck.dt limits.some_dt limits.small_dt (omega arith)
 
-  reuse_is : number_of 1 MOST_REUSE (decimal deck.reuse) ≡ Some deck.reuse
+  reuse_is : number_within 1 MOST_REUSE (decimal deck.reuse) ≡ Some deck.reuse
   reuse_is = number_of-decimal digits_back 1 MOST_REUSE deck.reuse limits.some_reuse limits.small_reuse (omega arith)
 
   forms : HaveForms (settings_of deck)
@@ -88,7 +88,7 @@ module _ (digits_back : DigitsReadBack) (lines_back : WrittenLinesReadBack) (tex
     ),
   )
 
-  lines : AllByRecursion IsWritable (map fields_of (settings_of deck))
+  lines : AllByRecursion IsWritable (map setting_fields (settings_of deck))
   lines =
       let number = λ (n : ℕ) (small : n < 2 ^ 64). (digits_back n small).0 in
       let grid = kept_grid text deck h in
@@ -139,12 +139,12 @@ module _ (digits_back : DigitsReadBack) (lines_back : WrittenLinesReadBack) (tex
     reuse = unwrap_or (reuse_is i) 1;
   }
 
-  pub read_back : Spells (deck_text deck) deck
+  pub read_back : SpellsDeck (deck_text deck) deck
   read_back =
       let settings = settings_of deck in
       let made = makes h.settings deck h.deck_is in
       record {
         settings = settings;
-        given = subst (λ ls. Gives [] ls settings) (sym (lines_back (map fields_of settings) lines)) (given_lines [] 1 settings (new_keys deck) forms);
+        given = subst (λ ls. GiveSettings [] ls settings) (sym (lines_back (map setting_fields settings) lines)) (given_lines [] 1 settings (new_keys deck) forms);
         deck_is = ap with_lists_built whole ∙ rw made.built refl;
       }

@@ -8,8 +8,8 @@ use Rattle.deck_file.specs.declared.fault.DeckFault.TheVariants as faults
 use Rattle.deck_file.specs.declared.keyword.Keyword.{Keyword}
 use Rattle.deck_file.specs.Deck.{deck_of}
 use Rattle.deck_file.specs.Keywords.{keyword_text}
-use Rattle.deck_file.specs.Reading.{GivesUnlessMemory, HasKey, HasFaultyLine, HasFirstDeckFault, IsFaultAfter, Reads, Spells}
-use Rattle.deck_file.specs.Settings.{Gives, IsNext, KeyValue, fields_of, is_of_form, value_in}
+use Rattle.deck_file.specs.Reading.{GivesDeckUnlessMemory, HasKey, HasFaultyLine, HasFirstDeckFault, IsFaultAfter, ReadsDeck, SpellsDeck}
+use Rattle.deck_file.specs.Settings.{GiveSettings, IsNext, KeyValue, setting_fields, is_of_form, value_in}
 use Rattle.deck_file.proofs.KeywordLemmas.{key_from, key_from-keyword_text, key_from-sound, keyword_text-injective}
 
 -- ---- one line
@@ -27,7 +27,7 @@ same_rest first xs ys e = cc
 same_value : (a b : List ℕ) (x y : List ℕ) → ◌≡◌ {A = List (List ℕ)} (a ∷ x ∷ []) (b ∷ y ∷ []) → x ≡ y
 same_value a b x y e = cc
 
-one_setting : (line : FieldLine) (s t : KeyValue) → line.fields ≡ fields_of s → line.fields ≡ fields_of t → s ≡ t
+one_setting : (line : FieldLine) (s t : KeyValue) → line.fields ≡ setting_fields s → line.fields ≡ setting_fields t → s ≡ t
 one_setting line s t p q =
     let key = same_key line s.key t.key _ _ p q in
     let value = same_value _ _ s.value t.value (sym p ∙ q) in
@@ -81,11 +81,11 @@ one_fault settings line faults.Memory b f g = absurd f
 
 -- ---- lines one after another
 
-Gives-one : (start : List KeyValue) (lines : List FieldLine) (a b : List KeyValue) → Gives start lines a → Gives start lines b → a ≡ b
+Gives-one : (start : List KeyValue) (lines : List FieldLine) (a b : List KeyValue) → GiveSettings start lines a → GiveSettings start lines b → a ≡ b
 Gives-one start [] a b p q = sym p ∙ q
 Gives-one start (line ∷ lines) a b p q =
     let same = one_setting line p.0 q.0 p.1.fields q.1.fields in
-    Gives-one (start ++ q.0 ∷ []) lines a b (subst (λ s. Gives (start ++ s ∷ []) lines a) same p.2) q.2
+    Gives-one (start ++ q.0 ∷ []) lines a b (subst (λ s. GiveSettings (start ++ s ∷ []) lines a) same p.2) q.2
 
 -- a line after these lines has the fault, and none before it has one
 abbrev Stops : List KeyValue → List FieldLine → DeckFault → Type 0
@@ -93,7 +93,7 @@ Stops start [] fault = ⊥
 Stops start (line ∷ lines) fault = IsFaultAfter start line fault ⊎ ((s : KeyValue) × IsNext start line s × Stops (start ++ s ∷ []) lines fault)
 
 stops_at : (start : List KeyValue) (before : List FieldLine) (line : FieldLine) (after : List FieldLine) (settings : List KeyValue) (fault : DeckFault)
-    → Gives start before settings → IsFaultAfter settings line fault → Stops start (before ++ line ∷ after) fault
+    → GiveSettings start before settings → IsFaultAfter settings line fault → Stops start (before ++ line ∷ after) fault
 stops_at start [] line after settings fault given f = inl (subst (λ s. IsFaultAfter s line fault) (sym given) f)
 stops_at start (next ∷ before) line after settings fault given f =
     inr (given.0, given.1, stops_at (start ++ given.0 ∷ []) before line after settings fault given.2 f)
@@ -101,7 +101,7 @@ stops_at start (next ∷ before) line after settings fault given f =
 stops : (text : List ℕ) (fault : DeckFault) → HasFaultyLine text fault → Stops [] (field_lines text) fault
 stops text fault h = subst (λ lines. Stops [] lines fault) (sym h.lines) (stops_at [] h.before h.line h.after h.settings fault h.given h.fault_is)
 
-gives_or_stops : (start : List KeyValue) (lines : List FieldLine) (settings : List KeyValue) (fault : DeckFault) → Gives start lines settings
+gives_or_stops : (start : List KeyValue) (lines : List FieldLine) (settings : List KeyValue) (fault : DeckFault) → GiveSettings start lines settings
     → Stops start lines fault → ⊥
 gives_or_stops start [] settings fault given f = f
 gives_or_stops start (line ∷ lines) settings fault given (inl f) = no_fault start line given.0 fault given.1 f
@@ -120,11 +120,11 @@ Stops-one start (line ∷ lines) a b (inr p) (inr q) =
 
 -- ---- the whole text
 
-same_end : (text : List ℕ) (a b : Result Deck DeckFault) (s t : List KeyValue) → Gives [] (field_lines text) s → Gives [] (field_lines text) t
+same_end : (text : List ℕ) (a b : Result Deck DeckFault) (s t : List KeyValue) → GiveSettings [] (field_lines text) s → GiveSettings [] (field_lines text) t
     → deck_of s ≡ a → deck_of t ≡ b → a ≡ b
 same_end text a b s t p q x y = sym x ∙ ap deck_of (Gives-one [] (field_lines text) s t p q) ∙ y
 
-pub one_reading : (text : List ℕ) (a b : Result Deck DeckFault) → Reads text a → Reads text b → a ≡ b
+pub one_reading : (text : List ℕ) (a b : Result Deck DeckFault) → ReadsDeck text a → ReadsDeck text b → a ≡ b
 one_reading text (Ok a) (Ok b) p q = same_end text (Ok a) (Ok b) p.settings q.settings p.given q.given p.deck_is q.deck_is
 one_reading text (Ok a) (Err g) p (inl q) = absurd (gives_or_stops [] (field_lines text) p.settings g p.given (stops text g q))
 one_reading text (Ok a) (Err g) p (inr q) = same_end text (Ok a) (Err g) p.settings q.settings p.given q.given p.deck_is q.fault_is
@@ -138,7 +138,7 @@ one_reading text (Err f) (Err g) (inr p) (inr q) = same_end text (Err f) (Err g)
 -- ---- one more line
 
 pub Gives-more : (start : List KeyValue) (before : List FieldLine) (settings : List KeyValue) (line : FieldLine) (s : KeyValue)
-    → Gives start before settings → IsNext settings line s → Gives start (before ++ line ∷ []) (settings ++ s ∷ [])
+    → GiveSettings start before settings → IsNext settings line s → GiveSettings start (before ++ line ∷ []) (settings ++ s ∷ [])
 Gives-more start [] settings line s given n = (s, subst (λ before. IsNext before line s) (sym given) n, ap (λ before. before ++ s ∷ []) given)
 Gives-more start (next ∷ before) settings line s given n = (given.0, given.1, Gives-more (start ++ given.0 ∷ []) before settings line s given.2 n)
 
@@ -197,9 +197,9 @@ judged settings line = go (key_of line.fields) refl
     go (Some key) found = judged_key settings line key (has_key line line.fields key refl found) (value_in settings key) refl
 
 abbrev Ended : List KeyValue → List FieldLine → Type 0
-Ended start lines = ((settings : List KeyValue) × Gives start lines settings)
+Ended start lines = ((settings : List KeyValue) × GiveSettings start lines settings)
     ⊎ ((before : List FieldLine) × (line : FieldLine) × (after : List FieldLine) × (lines ≡ before ++ line ∷ after)
-    × ((settings : List KeyValue) × Gives start before settings × ((fault : DeckFault) × IsFaultAfter settings line fault)))
+    × ((settings : List KeyValue) × GiveSettings start before settings × ((fault : DeckFault) × IsFaultAfter settings line fault)))
 
 ended : (start : List KeyValue) (lines : List FieldLine) → Ended start lines
 ended start [] = inl (start, refl)
@@ -213,15 +213,15 @@ ended start (line ∷ lines) = go (judged start line) (λ s. ended (start ++ s �
     go (inl next) rest = later next.0 next.1 (rest next.0)
     go (inr f) rest = inr ([], line, lines, refl, (start, refl, f))
 
-pub some_reading : (text : List ℕ) → (reading : Result Deck DeckFault) × Reads text reading
+pub some_reading : (text : List ℕ) → (reading : Result Deck DeckFault) × ReadsDeck text reading
 some_reading text = go (ended [] (field_lines text))
   where
-    finished : (settings : List KeyValue) → Gives [] (field_lines text) settings → (end : Result Deck DeckFault) → deck_of settings ≡ end
-        → (reading : Result Deck DeckFault) × Reads text reading
+    finished : (settings : List KeyValue) → GiveSettings [] (field_lines text) settings → (end : Result Deck DeckFault) → deck_of settings ≡ end
+        → (reading : Result Deck DeckFault) × ReadsDeck text reading
     finished settings given (Ok deck) is = (Ok deck, record { settings = settings; given = given; deck_is = is })
     finished settings given (Err fault) is = (Err fault, inr (record { settings = settings; given = given; fault_is = is }))
 
-    go : Ended [] (field_lines text) → (reading : Result Deck DeckFault) × Reads text reading
+    go : Ended [] (field_lines text) → (reading : Result Deck DeckFault) × ReadsDeck text reading
     go (inl given) = finished given.0 given.1 (deck_of given.0) refl
     go (inr f) = (
       Err f.4.2.0,
@@ -238,9 +238,9 @@ some_reading text = go (ended [] (field_lines text))
 
 -- ---- an answer that is right is the only one
 
-pub exact_answer : (text : List ℕ) (answer : Result Deck DeckFault) → IfOk answer (Spells text)
-    → IfErr answer (λ fault. (fault ≡ faults.Memory) ⊎ HasFirstDeckFault text fault) → (reading : Result Deck DeckFault) → Reads text reading
-    → GivesUnlessMemory answer reading
+pub exact_answer : (text : List ℕ) (answer : Result Deck DeckFault) → IfOk answer (SpellsDeck text)
+    → IfErr answer (λ fault. (fault ≡ faults.Memory) ⊎ HasFirstDeckFault text fault) → (reading : Result Deck DeckFault) → ReadsDeck text reading
+    → GivesDeckUnlessMemory answer reading
 exact_answer text (Ok deck) ok err reading reads = one_reading text reading (Ok deck) reads ok
 exact_answer text (Err fault) ok (inl memory) reading reads = inl memory
 exact_answer text (Err fault) ok (inr first) reading reads = inr (one_reading text reading (Err fault) reads first)

@@ -13,7 +13,7 @@ use Rattle.deck_file.specs.declared.keyword.Keyword.{Keyword}
 use Rattle.deck_file.specs.declared.keyword.Keyword.TheVariants as keys
 use Rattle.deck_file.specs.declared.limits.TheConstants.{MOST_DT, MOST_REUSE, MOST_STEPS}
 use Rattle.deck_file.specs.Settings.{KeyValue, value_in}
-use Rattle.deck_file.specs.Values.{angle_of, division_of, edge_of, number_of}
+use Rattle.deck_file.specs.Values.{angle_of, division_of, edge_of, number_within}
 
 -- the key's value, as it is read, or the default
 abbrev pub setting : {X : Type 0} → List KeyValue → Keyword → (List ℕ → Option X) → X → X
@@ -37,10 +37,10 @@ deck_with settings kernel particles out =
       out = out;
       grid = grid_in settings;
       theta = record { a = (angle_in settings).0; b = (angle_in settings).1; edge = edge_in settings };
-      group = setting settings keys.Group (number_of 1 MOST_GROUP) 64;
-      steps = setting settings keys.Steps (number_of 0 MOST_STEPS) 0;
-      dt = setting settings keys.Dt (number_of 1 MOST_DT) 1;
-      reuse = setting settings keys.Reuse (number_of 1 MOST_REUSE) 1;
+      group = setting settings keys.Group (number_within 1 MOST_GROUP) 64;
+      steps = setting settings keys.Steps (number_within 0 MOST_STEPS) 0;
+      dt = setting settings keys.Dt (number_within 1 MOST_DT) 1;
+      reuse = setting settings keys.Reuse (number_within 1 MOST_REUSE) 1;
     }
 
 abbrev pub is_periodic : Edge → Bool

@@ -5,14 +5,14 @@ use Rattle.deck_file.specs.declared.deck.Deck.{Deck}
 use Rattle.deck_file.specs.declared.fault.DeckFault.{DeckFault}
 use Rattle.deck_file.specs.declared.limits.TheConstants.{MOST_DT, MOST_REUSE, MOST_STEPS}
 use Rattle.deck_file.specs.Printed.{deck_text}
-use Rattle.deck_file.specs.Reading.{Reads, Spells}
+use Rattle.deck_file.specs.Reading.{ReadsDeck, SpellsDeck}
 use Rattle.deck_file.specs.Values.{is_name}
 
 abbrev pub EveryTextHasAReading : Type 0
-EveryTextHasAReading = (text : List ℕ) → (reading : Result Deck DeckFault) × Reads text reading
+EveryTextHasAReading = (text : List ℕ) → (reading : Result Deck DeckFault) × ReadsDeck text reading
 
 abbrev pub NoTextHasTwoReadings : Type 0
-NoTextHasTwoReadings = (text : List ℕ) (a b : Result Deck DeckFault) → Reads text a → Reads text b → a ≡ b
+NoTextHasTwoReadings = (text : List ℕ) (a b : Result Deck DeckFault) → ReadsDeck text a → ReadsDeck text b → a ≡ b
 
 -- the limits of a deck's numbers, and the form of its names
 pub record IsWithinLimits (deck : Deck) : Type 0 where
@@ -28,7 +28,7 @@ pub record IsWithinLimits (deck : Deck) : Type 0 where
   pub small_reuse : deck.reuse ≤ MOST_REUSE
 
 abbrev pub DecksKeepTheirLimits : Type 0
-DecksKeepTheirLimits = (text : List ℕ) (deck : Deck) → Spells text deck → IsWithinLimits deck
+DecksKeepTheirLimits = (text : List ℕ) (deck : Deck) → SpellsDeck text deck → IsWithinLimits deck
 
 abbrev pub PrintedDecksReadBack : Type 0
-PrintedDecksReadBack = (text : List ℕ) (deck : Deck) → Spells text deck → Spells (deck_text deck) deck
+PrintedDecksReadBack = (text : List ℕ) (deck : Deck) → SpellsDeck text deck → SpellsDeck (deck_text deck) deck

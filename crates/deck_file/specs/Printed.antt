@@ -7,7 +7,7 @@ use Rattle.text_lines.specs.Written.{written}
 use Rattle.deck_file.specs.declared.deck.Deck.{Deck}
 use Rattle.deck_file.specs.declared.keyword.Keyword.{Keyword}
 use Rattle.deck_file.specs.declared.keyword.Keyword.TheVariants as keys
-use Rattle.deck_file.specs.Settings.{KeyValue, fields_of}
+use Rattle.deck_file.specs.Settings.{KeyValue, setting_fields}
 
 abbrev pub division_text : Division → List ℕ
 division_text grid = decimal grid.nx ++ 120 ∷ decimal grid.ny ++ 120 ∷ decimal grid.nz
@@ -33,4 +33,4 @@ settings_of deck =
 
 -- a line for each key
 abbrev pub deck_text : Deck → List ℕ
-deck_text deck = written (map fields_of (settings_of deck))
+deck_text deck = written (map setting_fields (settings_of deck))

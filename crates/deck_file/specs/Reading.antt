@@ -7,12 +7,12 @@ use Rattle.deck_file.specs.declared.fault.DeckFault.TheVariants as faults
 use Rattle.deck_file.specs.declared.keyword.Keyword.{Keyword}
 use Rattle.deck_file.specs.Deck.{deck_of}
 use Rattle.deck_file.specs.Keywords.{keyword_text}
-use Rattle.deck_file.specs.Settings.{Gives, KeyValue, is_of_form, value_in}
+use Rattle.deck_file.specs.Settings.{GiveSettings, KeyValue, is_of_form, value_in}
 
 -- the settings of all lines that aren't skipped make this deck
-pub record Spells (text : List ℕ) (deck : Deck) : Type 0 where
+pub record SpellsDeck (text : List ℕ) (deck : Deck) : Type 0 where
   pub settings : List KeyValue
-  pub given : Gives [] (field_lines text) settings
+  pub given : GiveSettings [] (field_lines text) settings
   pub deck_is : deck_of settings ≡ Ok deck
 
 -- the line begins with this key
@@ -38,24 +38,24 @@ pub record HasFaultyLine (text : List ℕ) (fault : DeckFault) : Type 0 where
   pub after : List FieldLine
   pub lines : field_lines text ≡ before ++ line ∷ after
   pub settings : List KeyValue
-  pub given : Gives [] before settings
+  pub given : GiveSettings [] before settings
   pub fault_is : IsFaultAfter settings line fault
 
 -- no line has a fault, but together they make no deck
 pub record HasFaultAtEnd (text : List ℕ) (fault : DeckFault) : Type 0 where
   pub settings : List KeyValue
-  pub given : Gives [] (field_lines text) settings
+  pub given : GiveSettings [] (field_lines text) settings
   pub fault_is : deck_of settings ≡ Err fault
 
 abbrev pub HasFirstDeckFault : List ℕ → DeckFault → Type 0
 HasFirstDeckFault text fault = HasFaultyLine text fault ⊎ HasFaultAtEnd text fault
 
 -- what reading the text answers
-abbrev pub Reads : List ℕ → Result Deck DeckFault → Type 0
-Reads text (Ok deck) = Spells text deck
-Reads text (Err fault) = HasFirstDeckFault text fault
+abbrev pub ReadsDeck : List ℕ → Result Deck DeckFault → Type 0
+ReadsDeck text (Ok deck) = SpellsDeck text deck
+ReadsDeck text (Err fault) = HasFirstDeckFault text fault
 
 -- what a call returned is this reading, unless memory ran out
-abbrev pub GivesUnlessMemory : Result Deck DeckFault → Result Deck DeckFault → Type 0
-GivesUnlessMemory (Ok deck) reading = reading ≡ Ok deck
-GivesUnlessMemory (Err fault) reading = (fault ≡ faults.Memory) ⊎ (reading ≡ Err fault)
+abbrev pub GivesDeckUnlessMemory : Result Deck DeckFault → Result Deck DeckFault → Type 0
+GivesDeckUnlessMemory (Ok deck) reading = reading ≡ Ok deck
+GivesDeckUnlessMemory (Err fault) reading = (fault ≡ faults.Memory) ⊎ (reading ≡ Err fault)

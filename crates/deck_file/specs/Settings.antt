@@ -6,7 +6,7 @@ use Rattle.deck_file.specs.declared.keyword.Keyword.{Keyword}
 use Rattle.deck_file.specs.declared.keyword.Keyword.TheVariants as keys
 use Rattle.deck_file.specs.declared.limits.TheConstants.{MOST_DT, MOST_REUSE, MOST_STEPS}
 use Rattle.deck_file.specs.Keywords.{keyword_text, is_same}
-use Rattle.deck_file.specs.Values.{angle_of, division_of, edge_of, is_name, number_of}
+use Rattle.deck_file.specs.Values.{angle_of, division_of, edge_of, is_name, number_within}
 
 -- a key with its value
 pub record KeyValue : Type 0 where
@@ -14,8 +14,8 @@ pub record KeyValue : Type 0 where
   pub value : List ℕ
 
 -- the fields of its line
-abbrev pub fields_of : KeyValue → List (List ℕ)
-fields_of setting = keyword_text setting.key ∷ setting.value ∷ []
+abbrev pub setting_fields : KeyValue → List (List ℕ)
+setting_fields setting = keyword_text setting.key ∷ setting.value ∷ []
 
 -- the value that the settings give a key
 abbrev pub value_in : List KeyValue → Keyword → Option (List ℕ)
@@ -28,20 +28,20 @@ is_of_form keys.Particles value = is_name value
 is_of_form keys.Out value = is_name value
 is_of_form keys.Grid value = is_some (division_of value)
 is_of_form keys.Theta value = is_some (angle_of value)
-is_of_form keys.Group value = is_some (number_of 1 MOST_GROUP value)
-is_of_form keys.Steps value = is_some (number_of 0 MOST_STEPS value)
-is_of_form keys.Dt value = is_some (number_of 1 MOST_DT value)
-is_of_form keys.Reuse value = is_some (number_of 1 MOST_REUSE value)
+is_of_form keys.Group value = is_some (number_within 1 MOST_GROUP value)
+is_of_form keys.Steps value = is_some (number_within 0 MOST_STEPS value)
+is_of_form keys.Dt value = is_some (number_within 1 MOST_DT value)
+is_of_form keys.Reuse value = is_some (number_within 1 MOST_REUSE value)
 is_of_form keys.Box value = is_some (edge_of value)
 
 -- the line gives a key that has no value yet, and one value of the key's form
 pub record IsNext (settings : List KeyValue) (line : FieldLine) (setting : KeyValue) : Type 0 where
-  pub fields : line.fields ≡ fields_of setting
+  pub fields : line.fields ≡ setting_fields setting
   pub first : value_in settings setting.key ≡ None
   pub form : is_of_form setting.key setting.value ≡ true
 
 -- after lines that give the settings of `before`, these lines give all of `after`
-abbrev pub Gives : List KeyValue → List FieldLine → List KeyValue → Type 0
-Gives before [] after = before ≡ after
-Gives before (line ∷ lines) after =
-    (setting : KeyValue) × IsNext before line setting × Gives (before ++ setting ∷ []) lines after
+abbrev pub GiveSettings : List KeyValue → List FieldLine → List KeyValue → Type 0
+GiveSettings before [] after = before ≡ after
+GiveSettings before (line ∷ lines) after =
+    (setting : KeyValue) × IsNext before line setting × GiveSettings (before ++ setting ∷ []) lines after

@@ -20,8 +20,8 @@ abbrev pub is_name : List ℕ → Bool
 is_name value = nat_le 1 (length value) && nat_le (length value) MOST_NAME && list_all is_visible value
 
 -- a number of at most 10 digits within these limits
-abbrev pub number_of : ℕ → ℕ → List ℕ → Option ℕ
-number_of least most value = if nat_le (length value) 10 then result_ok (digits_in least most value) else None
+abbrev pub number_within : ℕ → ℕ → List ℕ → Option ℕ
+number_within least most value = if nat_le (length value) 10 then result_ok (digits_in least most value) else None
 
 -- what stands before the first such byte, and what stands after it
 abbrev pub cut_at : ℕ → List ℕ → Option (List ℕ × List ℕ)
@@ -34,7 +34,8 @@ angle_with _ _ = None
 -- `A/B`
 abbrev pub angle_of : List ℕ → Option (ℕ × ℕ)
 angle_of value =
-    option_and_then (λ parts. angle_with (number_of 0 1024 parts.0) (number_of 1 1024 parts.1)) (cut_at 47 value)
+    option_and_then
+    (λ parts. angle_with (number_within 0 1024 parts.0) (number_within 1 1024 parts.1)) (cut_at 47 value)
 
 abbrev pub division_with : Option ℕ → Option ℕ → Option ℕ → Option Division
 division_with (Some nx) (Some ny) (Some nz) =
@@ -42,7 +43,7 @@ division_with (Some nx) (Some ny) (Some nz) =
 division_with _ _ _ = None
 
 abbrev pub slabs : List ℕ → Option ℕ
-slabs = number_of 1 MOST_RANKS
+slabs = number_within 1 MOST_RANKS
 
 -- `AxBxC`
 abbrev pub division_of : List ℕ → Option Division

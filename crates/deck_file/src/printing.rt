@@ -2,7 +2,7 @@ ghost use Rattle.std.specs.Prelude.{◌≡◌, [], ◌∷◌, ◌++◌, decimal,
 ghost use Rattle.text_lines.specs.Written.{written_line};
 ghost use Rattle.deck_file.specs.Keywords.{keyword_text};
 ghost use Rattle.deck_file.specs.Printed.{angle_text, deck_text, division_text, edge_text, with_value};
-ghost use Rattle.deck_file.specs.Settings.{fields_of};
+ghost use Rattle.deck_file.specs.Settings.{setting_fields};
 
 use crate::deck::Deck;
 use crate::keyword::{Keyword, spelling};
@@ -36,7 +36,7 @@ pub fn print(alloc: Global, deck: &Deck) -> Result<Vec<u8>, OutOfMemory>
 
 // The line of a key with this value.
 fn push_line(out: &mut Vec<u8>, key: Keyword, value: &[u8]) -> Result<(), OutOfMemory>
-    ensures { OnOk result (out.new.items ≡ out.old.items ++ written_line (fields_of (with_value key value.now))) }
+    ensures { OnOk result (out.new.items ≡ out.old.items ++ written_line (setting_fields (with_value key value.now))) }
 {
     push_key(out, key)?;
     out.extend_from_slice(value)?;
@@ -47,7 +47,7 @@ fn push_line(out: &mut Vec<u8>, key: Keyword, value: &[u8]) -> Result<(), OutOfM
 // The line of a key with a number.
 fn push_number(out: &mut Vec<u8>, key: Keyword, number: u32) -> Result<(), OutOfMemory>
     ensures { OnOk result (out.new.items
-        ≡ out.old.items ++ written_line (fields_of (with_value key (decimal number)))) }
+        ≡ out.old.items ++ written_line (setting_fields (with_value key (decimal number)))) }
 {
     push_key(out, key)?;
     push_decimal(out, i128::from(number))?;

@@ -3,11 +3,11 @@ ghost use Rattle.std.specs.Prelude.{Result, IfOk, IfErr, option_map, MatchOption
 ghost use Rattle.text_lines.specs.Lines.{field_lines};
 ghost use Rattle.pf_model.specs.Criterion.{IsAngle};
 ghost use Rattle.deck_file.specs.Deck.{angle_in, deck_of, edge_in, grid_in, setting};
-ghost use Rattle.deck_file.specs.Reading.{GivesUnlessMemory, HasFaultyLine, HasFirstDeckFault};
-ghost use Rattle.deck_file.specs.Reading.{IsFaultAfter, Reads, Spells};
+ghost use Rattle.deck_file.specs.Reading.{GivesDeckUnlessMemory, HasFaultyLine, HasFirstDeckFault};
+ghost use Rattle.deck_file.specs.Reading.{IsFaultAfter, ReadsDeck, SpellsDeck};
 ghost use Rattle.deck_file.specs.Keywords.{keyword_text};
-ghost use Rattle.deck_file.specs.Settings.{Gives, IsNext, is_of_form, value_in};
-ghost use Rattle.deck_file.specs.Values.{number_of};
+ghost use Rattle.deck_file.specs.Settings.{GiveSettings, IsNext, is_of_form, value_in};
+ghost use Rattle.deck_file.specs.Values.{number_within};
 ghost use Rattle.deck_file.specs.declared.deck.Deck.{Deck as AnyDeck};
 ghost use Rattle.deck_file.specs.declared.fault.DeckFault.{DeckFault as AnyFault};
 ghost use Rattle.deck_file.specs.declared.fault.DeckFault.TheVariants.{Memory};
@@ -28,10 +28,11 @@ use text_lines::{Fields, Line, Lines};
 /// The deck that the text spells. Where it spells none the answer is its first fault.
 pub fn read(alloc: Global, text: &[u8]) -> Result<Deck, DeckFault>
     requires { length text.now ≤ 2 ^ 31 }
-    ensures ok { IfOk result (Spells text.now) }
+    ensures ok { IfOk result (SpellsDeck text.now) }
     ensures err { IfErr result (λ fault. (fault ≡ Memory) ⊎ HasFirstDeckFault text.now fault) }
     // Each answer comes wherever it is the text's reading, but for want of memory.
-    ensures exact { (reading : Result AnyDeck AnyFault) → Reads text.now reading → GivesUnlessMemory result reading }
+    ensures exact { (reading : Result AnyDeck AnyFault) → ReadsDeck text.now reading
+        → GivesDeckUnlessMemory result reading }
 {
     let settings = settings_of(alloc, text)?;
     deck_of(alloc, &settings)
@@ -40,7 +41,7 @@ pub fn read(alloc: Global, text: &[u8]) -> Result<Deck, DeckFault>
 // The settings of all lines.
 fn settings_of<'a>(alloc: Global, text: &'a [u8]) -> Result<Vec<KeyValue<'a>>, DeckFault>
     requires { length text.now ≤ 2 ^ 31 }
-    ensures ok { IfOk result (λ settings. Gives [] (field_lines text.now) settings.items) }
+    ensures ok { IfOk result (λ settings. GiveSettings [] (field_lines text.now) settings.items) }
     ensures err { IfErr result (λ fault. (fault ≡ Memory) ⊎ HasFaultyLine text.now fault) }
 {
     let mut settings = Vec::new(alloc);
@@ -140,7 +141,7 @@ fn name(alloc: Global, value: &[u8]) -> Result<Name, AllocError>
 
 // The value of a key that is a number, or the default.
 fn number_in(settings: &[KeyValue], key: Keyword, least: u32, most: u32, default: u32) -> u32
-    ensures { result ≡ setting settings.now key (number_of least most) default }
+    ensures { result ≡ setting settings.now key (number_within least most) default }
 {
     match value_in(settings, key) {
         Some(value) => number(value, least, most).unwrap_or(default),

@@ -2,7 +2,7 @@ ghost use Rattle.std.specs.Prelude.{◌≡◌, ◌==◌, ◌<◌, ◌≤◌, len
 ghost use Rattle.std.specs.List.{list_all};
 ghost use Rattle.pf_model.specs.Criterion.{IsAngle};
 ghost use Rattle.deck_file.specs.Settings.{is_of_form};
-ghost use Rattle.deck_file.specs.Values.{angle_of, cut_at, division_of, edge_of, is_name, is_visible, number_of};
+ghost use Rattle.deck_file.specs.Values.{angle_of, cut_at, division_of, edge_of, is_name, is_visible, number_within};
 
 use crate::keyword::Keyword;
 use crate::limits::{MOST_DT, MOST_NAME, MOST_REUSE, MOST_STEPS};
@@ -42,7 +42,7 @@ fn is_visible(value: &[u8]) -> bool
 
 /// A number of at most ten digits within these limits.
 pub(crate) fn number(value: &[u8], least: u32, most: u32) -> Option<u32>
-    ensures value { result ≡ number_of least most value.now }
+    ensures value { result ≡ number_within least most value.now }
     ensures within { IfSome result (λ n. (least ≤ n) × (n ≤ most)) }
 {
     if value.len() <= 10 {

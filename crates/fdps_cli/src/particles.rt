@@ -2,7 +2,7 @@ ghost use Rattle.std.specs.Prelude.{◌≡◌, ◌<◌, ◌≤◌, ◌^◌, ◌�
 ghost use Rattle.std.specs.Int.{w64};
 ghost use Rattle.std.specs.List.{AllByRecursion, IsDistinct, flat_map};
 ghost use Rattle.pf_geom.specs.Position.{Position, IsInCube};
-ghost use Rattle.pf_model.specs.Particle.{Particle, IsWithinLimits};
+ghost use Rattle.pf_model.specs.Particle.{Particle, HasParticleLimits};
 ghost use Rattle.fdps_cli.specs.Particles.{fields, spaced, particle_line, IsPlainParticle, AreThinParticles};
 
 use crate::front::{after, number};
@@ -159,7 +159,7 @@ fn point_of(x: i64, y: i64, z: i64) -> Option<Point>
 
 // Whether a velocity, a mass and attributes are within the limits of every particle.
 fn are_within_limits(vel: &[i64; 3], mass: u32, attr: &[i64; 8]) -> bool
-    ensures { IsTrue result ↔ IsWithinLimits vel.now mass attr.now }
+    ensures { IsTrue result ↔ HasParticleLimits vel.now mass attr.now }
 {
     const FASTEST: u64 = 1 << 47;
     const HEAVIEST: u32 = (1 << 31) - 1;

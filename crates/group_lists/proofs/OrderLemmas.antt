@@ -26,7 +26,7 @@ use Rattle.pf_model.specs.Sums.{moment_of}
 use Rattle.pf_model.specs.Interaction.{level_of, leads_to_cell, entry_at, entry_of, comes_before, list_of}
 use Rattle.pf_model.specs.ParticleLaws.{ParticlesOfOneIdAreOne}
 use Rattle.pf_model.specs.ListLaws.{LevelsAreLeast, ListsHoldTheirEntries}
-use Rattle.group_lists.specs.Places.{place_of}
+use Rattle.group_lists.specs.Places.{entry_place}
 use Rattle.group_lists.specs.Runs.{HasEntriesOf}
 
 -- the order of pairs that the sort goes by, and whether two pairs are equal
@@ -34,16 +34,16 @@ abbrev pair_cmp : ℕ → ℕ → ℕ → ℕ → Ordering
 pair_cmp a m b n = ordering_then (nat_cmp a b) (nat_cmp m n)
 
 abbrev pub by_place : Entry → Entry → Ordering
-by_place e f = pair_cmp (place_of e).0 (place_of e).1 (place_of f).0 (place_of f).1
+by_place e f = pair_cmp (entry_place e).0 (entry_place e).1 (entry_place f).0 (entry_place f).1
 
 abbrev pub is_earlier : Entry → Entry → Bool
 is_earlier e f = is_lt (by_place e f)
 
 abbrev pub same_place : Entry → Entry → Bool
-same_place e f = nat_eq (place_of e).0 (place_of f).0 && nat_eq (place_of e).1 (place_of f).1
+same_place e f = nat_eq (entry_place e).0 (entry_place f).0 && nat_eq (entry_place e).1 (entry_place f).1
 
 by_place-total : IsTotalOrder by_place
-by_place-total = then_total (on_total (λ (e : Entry). (place_of e).0) nat_cmp_total) (on_total (λ (e : Entry). (place_of e).1) nat_cmp_total)
+by_place-total = then_total (on_total (λ (e : Entry). (entry_place e).0) nat_cmp_total) (on_total (λ (e : Entry). (entry_place e).1) nat_cmp_total)
 
 -- what the first numbers of two pairs, where they differ, make of their order
 first_less : (a m b n : ℕ) → a < b → pair_cmp a m b n ≡ Less
@@ -78,10 +78,10 @@ pair_ties a m b n =
     ]
 
 same_place-ties : (e f : Entry) → same_place e f ≡ eq_by_cmp by_place e f
-same_place-ties e f = pair_ties (place_of e).0 (place_of e).1 (place_of f).0 (place_of f).1
+same_place-ties e f = pair_ties (entry_place e).0 (entry_place e).1 (entry_place f).0 (entry_place f).1
 
 same_place-equiv : IsEquivalence same_place
-same_place-equiv = and_equiv (on_equiv (λ (e : Entry). (place_of e).0) nat_eq_equiv) (on_equiv (λ (e : Entry). (place_of e).1) nat_eq_equiv)
+same_place-equiv = and_equiv (on_equiv (λ (e : Entry). (entry_place e).0) nat_eq_equiv) (on_equiv (λ (e : Entry). (entry_place e).1) nat_eq_equiv)
 
 not_less : (o : Ordering) → is_lt o ≡ false → o ≡ Less → ⊥
 not_less o e h = true≢false (ap is_lt (sym h) ∙ e)

@@ -45,7 +45,8 @@ pub record IsGroupOf (js : List Particle) (g : Group) : Type 0 where
 
 -- what each gather keeps: its own particles are those of its rank, and it has the number of all entries,
 -- and the lists themselves while they are few; it never stores more entries
-pub record IsGathered (t : Criterion) (g : Division) (js : List Particle) (gather : Gathering) (lists : List (List Entry)) (count : ℕ) : Type 0 where
+pub record IsGathered (t : Criterion) (g : Division) (js : List Particle) (gather : Gathering)
+    (lists : List (List Entry)) (count : ℕ) : Type 0 where
   pub own : IsPermutation gather.own (particles_of g js gather.rank)
   pub few : length gather.groups ≤ MOST_PARTICLES
   pub of_own : All (IsGroupOf gather.own) gather.groups

@@ -5,7 +5,7 @@ ghost use Rattle.pf_model.specs.Particles.{HaveDistinctIds};
 ghost use Rattle.pf_model.specs.Criterion.{Criterion};
 ghost use Rattle.pf_model.specs.Interaction.{level_of, list_of};
 ghost use Rattle.morton_tree.specs.Tree.{IsUnmoved};
-ghost use Rattle.group_lists.specs.Places.{place_of};
+ghost use Rattle.group_lists.specs.Places.{entry_place};
 ghost use Rattle.group_lists.specs.Runs.{IsRun, HasEntriesOf};
 
 use morton_tree::Tree;
@@ -58,13 +58,13 @@ fn put_in_order(entries: &mut Vec<Entry>)
     levels_are_least();
     lists_hold_their_entries();
     particles_of_one_id_are_one();
-    entries.sort_unstable_by_key(|entry| place_of(entry));
-    entries.dedup_by_key(|entry| place_of(entry));
+    entries.sort_unstable_by_key(|entry| entry_place(entry));
+    entries.dedup_by_key(|entry| entry_place(entry));
 }
 
 // Where an entry stands in lists: cells by level and key, and after them particles by id.
-fn place_of(entry: &Entry) -> (u32, u128)
-    ensures { result ≡ place_of entry.now }
+fn entry_place(entry: &Entry) -> (u32, u128)
+    ensures { result ≡ entry_place entry.now }
 {
     match entry {
         Entry::Cell(cell, _) => (cell.level, cell.key),

@@ -19,7 +19,7 @@ use Rattle.kern_types.specs.Fields as types_table
 use Rattle.kern_types.specs.Fields.{there}
 use Rattle.kern_types.specs.Names.{declaration, declared_type}
 use Rattle.kern_types.specs.Steps.{OrFault, ◌>>◌, Check, pass, unless}
-use Rattle.kern_meaning.specs.Names.{fields, field_named, kind_of, scale_of, particle_has, source_has, fits, variable_value, declared_value, name_value}
+use Rattle.kern_meaning.specs.Names.{fields_by_name, field_named, field_kind, scale_of, particle_has, source_has, fits, variable_value, declared_value, name_value}
 use Rattle.kern_meaning.specs.Values.{type_of_value, value_of_kind}
 use Rattle.kern_meaning.proofs.Fits.{Fits, FitsAs}
 
@@ -42,7 +42,7 @@ tested false fault e = absurd (let no : ⊥ = cc in no)
 record Alike (row : theirs.Field) (field : ours.Field) : Type 0 where
   pub epi : row.epi ≡ particle_has field
   pub epj : row.epj ≡ source_has field
-  pub kind : row.kind ≡ kind_of field
+  pub kind : row.kind ≡ field_kind field
   pub scale : row.scale ≡ scale_of field
 
 abbrev AllAlike : List (List ℕ × theirs.Field) → List (List ℕ × ours.Field) → Type 0
@@ -71,10 +71,10 @@ found_alike name [] (y ∷ ys) h = absurd h
 found_alike name (x ∷ xs) [] h = absurd h
 found_alike name (x ∷ xs) (y ∷ ys) h = chosen_alike (bytes_eq x.0 name) (bytes_eq y.0 name) (ap (λ n. bytes_eq n name) h.0) x y _ _ h.1 (found_alike name xs ys h.2)
 
-same : (row : theirs.Field) (field : ours.Field) → row.epi ≡ particle_has field → row.epj ≡ source_has field → row.kind ≡ kind_of field → row.scale ≡ scale_of field → Alike row field
+same : (row : theirs.Field) (field : ours.Field) → row.epi ≡ particle_has field → row.epj ≡ source_has field → row.kind ≡ field_kind field → row.scale ≡ scale_of field → Alike row field
 same row field a b c d = record { epi = a; epj = b; kind = c; scale = d }
 
-tables_alike : AllAlike types_table.fields fields
+tables_alike : AllAlike types_table.fields fields_by_name
 tables_alike = (refl, same _ _ refl refl refl refl, (refl, same _ _ refl refl refl refl, (refl, same _ _ refl refl refl refl, (refl, same _ _ refl refl refl refl, (refl, same _ _ refl refl refl refl, (refl, same _ _ refl refl refl refl, (refl, same _ _ refl refl refl refl, (refl, same _ _ refl refl refl refl, (refl, same _ _ refl refl refl refl, (refl, same _ _ refl refl refl refl, (refl, same _ _ refl refl refl refl, (refl, same _ _ refl refl refl refl, tt))))))))))))
 
 -- ---- variables
@@ -102,7 +102,7 @@ module _ (place : ℕ) (kind : Kind) (scale : ℕ) (bound : scale ≤ 62) (has :
       let right_kind = tested (same_kind row.kind kind) _ (passed_first (unless (same_kind row.kind kind) _) (unless (fits_scale row.scale scale) _) tt checked) in
       let right_scale = tested (fits_scale row.scale scale) _ (passed_then (unless (same_kind row.kind kind) _) (unless (fits_scale row.scale scale) _) tt checked) in
       present (has field && fits kind scale field) kind scale (along_each_axis (parts field))
-      (both (has field) (same_kind (kind_of field) kind) (fits_scale (scale_of field) scale) (sym e)
+      (both (has field) (same_kind (field_kind field) kind) (fits_scale (scale_of field) scale) (sym e)
       (ap (λ k. same_kind k kind) (sym h.kind) ∙ right_kind) (ap (λ s. fits_scale s scale) (sym h.scale) ∙ right_scale)) bound
 
   some_fits : (row : Option theirs.Field) (field : Option ours.Field) (test : theirs.Field → Bool) → ((r : theirs.Field) (f : ours.Field) → Alike r f → test r ≡ has f) → BothAlike row field
@@ -119,9 +119,9 @@ module _ (i : Particle) (j : Source) where
 
   what_fits : (at : ℕ) (what : DeclKind) → what_check at what ≡ pass → scale_declared what ≤ 62 → (place : ℕ) → Fits (declared_type place what) (name_value (declared_value i j what))
   what_fits at (declared_as.Epi kind scale name) checked bound place =
-      some_fits at kind scale bound particle_has (λ x. field_of_particle x i) (types_table.field_called name) (field_named name) (λ r. r.epi) (λ r f h. h.epi) (found_alike name types_table.fields fields tables_alike) checked
+      some_fits at kind scale bound particle_has (λ x. field_of_particle x i) (types_table.field_called name) (field_named name) (λ r. r.epi) (λ r f h. h.epi) (found_alike name types_table.fields fields_by_name tables_alike) checked
   what_fits at (declared_as.Epj kind scale name) checked bound place =
-      some_fits at kind scale bound source_has (λ x. field_of_source x j) (types_table.field_called name) (field_named name) (λ r. r.epj) (λ r f h. h.epj) (found_alike name types_table.fields fields tables_alike) checked
+      some_fits at kind scale bound source_has (λ x. field_of_source x j) (types_table.field_called name) (field_named name) (λ r. r.epj) (λ r f h. h.epj) (found_alike name types_table.fields fields_by_name tables_alike) checked
   what_fits at (declared_as.Param scale mantissa) checked bound place = (refl, bound)
   what_fits at (declared_as.Force kind scale combine) checked bound place = tt
 

@@ -14,7 +14,7 @@ use denote.Param.Weighed.{most, at_most}
 use Rattle.kern_meaning.specs.declared.stop.PairStop.{PairStop}
 use Rattle.kern_meaning.specs.Expressions.{truth_of}
 use Rattle.kern_meaning.specs.Stops.{◌>>=◌}
-use Rattle.kern_meaning.specs.Pair.{OrPairStop, State, Statements, at_statement, act_statements, at_stmt, assign, give, choose, act_meaning, block_meaning}
+use Rattle.kern_meaning.specs.Pair.{OrPairStop, PairState, Statements, at_statement, act_statements, at_stmt, assign, give, choose, act_meaning, block_meaning}
 use Rattle.kern_meaning.specs.Walks.{act_assigned, stmt_assigned, assigned_by, assigned_in, HavePlaces, HasPlace, Runs}
 use Rattle.kern_meaning.specs.declared.value.Value.{Value}
 use Rattle.kern_meaning.proofs.Layers.{of_stmt, set_layer, give_layer, if_layer}
@@ -51,7 +51,7 @@ module _ (decls : List Decl) (coincident : Bool) (act : Act) where
 
   -- ---- the blocks of an `if`
 
-  module _ (condition : Expr) (body others read read_other : List Stmt) (is : act ≡ acts.If condition body others) (same : read ≡ body) (same_other : read_other ≡ others) (n slot : ℕ) (before after : State) where
+  module _ (condition : Expr) (body others read read_other : List Stmt) (is : act ≡ acts.If condition body others) (same : read ≡ body) (same_other : read_other ≡ others) (n slot : ℕ) (before after : PairState) where
     chosen : (holds : Bool) → at_statement coincident n (truth_of before.known condition) ≡ Ok holds
         → (act_meaning decls coincident act).run n slot before
         ≡ cond holds ((block_meaning decls coincident read).run (n + 1) slot before) ((block_meaning decls coincident read_other).run (n + 1 + (block_meaning decls coincident read).count) (slot + (block_meaning decls coincident read).slots) before)
@@ -137,14 +137,14 @@ module _ (decls : List Decl) (coincident : Bool) (block : List Stmt) (k : ℕ) (
   pub next_slots : (block_meaning decls coincident (drop k block)).slots ≡ (act_meaning decls coincident stmt.act).slots + (block_meaning decls coincident (drop (k + 1) block)).slots
   next_slots = ap (λ b. (block_meaning decls coincident b).slots) is
 
-  module _ (n slot : ℕ) (before : State) (whole : OrPairStop State) (ran : whole ≡ (block_meaning decls coincident (drop k block)).run n slot before) where
+  module _ (n slot : ℕ) (before : PairState) (whole : OrPairStop PairState) (ran : whole ≡ (block_meaning decls coincident (drop k block)).run n slot before) where
     ran_next : whole ≡ ((act_meaning decls coincident stmt.act).run n slot before >>= (λ next. (block_meaning decls coincident (drop (k + 1) block)).run (n + (act_meaning decls coincident stmt.act).count) (slot + (act_meaning decls coincident stmt.act).slots) next))
     ran_next = ran ∙ ap (λ b. (block_meaning decls coincident b).run n slot before) is
 
     pub block_stops : (stop : PairStop) → (act_meaning decls coincident stmt.act).run n slot before ≡ Err stop → whole ≡ Err stop
     block_stops stop e = ran_next ∙ ap (λ r. r >>= (λ next. (block_meaning decls coincident (drop (k + 1) block)).run (n + (act_meaning decls coincident stmt.act).count) (slot + (act_meaning decls coincident stmt.act).slots) next)) e
 
-    pub block_goes_on : (after : State) (a b : ℕ) → (act_meaning decls coincident stmt.act).run n slot before ≡ Ok after → a ≡ n + (act_meaning decls coincident stmt.act).count → b ≡ slot + (act_meaning decls coincident stmt.act).slots
+    pub block_goes_on : (after : PairState) (a b : ℕ) → (act_meaning decls coincident stmt.act).run n slot before ≡ Ok after → a ≡ n + (act_meaning decls coincident stmt.act).count → b ≡ slot + (act_meaning decls coincident stmt.act).slots
         → whole ≡ (block_meaning decls coincident (drop (k + 1) block)).run a b after
     block_goes_on after a b e ea eb =
         ran_next ∙ ap (λ r. r >>= (λ next. (block_meaning decls coincident (drop (k + 1) block)).run (n + (act_meaning decls coincident stmt.act).count) (slot + (act_meaning decls coincident stmt.act).slots) next)) e

@@ -19,7 +19,7 @@ use Rattle.kern_types.specs.Names.{declaration}
 use Rattle.kern_meaning.specs.declared.value.Value.{Value}
 use Rattle.kern_meaning.specs.declared.variable.Variable.{Variable}
 use Rattle.kern_meaning.specs.declared.variable.Variable.TheVariants as variables
-use Rattle.kern_meaning.specs.Names.{at_start, with_assigned, value_if_declared, declared_value, variable_value, fits, field_named, particle_has, source_has}
+use Rattle.kern_meaning.specs.Names.{known_at_start, with_value, value_if_declared, declared_value, variable_value, fits, field_named, particle_has, source_has}
 use Rattle.kern_meaning.specs.Values.{value_of_kind}
 use Rattle.kern_meaning.specs.Variables.{resolved, resolved_field, value_of_variable, started_at}
 use Rattle.kern_meaning.specs.Walks.{number_of, known_by, value_at, HasPlace}
@@ -95,7 +95,7 @@ module _ (names : List (List ℕ)) (values : List (Option Value)) (name : List �
       ∙ ap value_at (got_same values (number_of names name) (Some v) (omega (arith, here, same)))
   assigned_at other false e = ap value_at (got_other values (number_of names name) (number_of names other) (Some v) (apart other e))
 
-  pub assigned_known : known_by names (set values (number_of names name) (Some v)) ≡ with_assigned (known_by names values) name v
+  pub assigned_known : known_by names (set values (number_of names name) (Some v)) ≡ with_value (known_by names values) name v
   assigned_known = fun_ext (λ other. assigned_at other (bytes_eq name other) refl)
 
 -- ---- the start
@@ -153,7 +153,7 @@ module _ (i : Particle) (j : Source) where
         past_end values k h
         ∙ sym (none_past resolved_all k (omega (arith, h, same, ap length names_are, ap length are, length-append (map (λ (d : Decl). d.name) decls) assigned, length-map decls (λ (d : Decl). d.name), length-map decls (λ (d : Decl). resolved d.what))))
 
-    start_at : (name : List ℕ) → known_by names values name ≡ at_start decls i j name
+    start_at : (name : List ℕ) → known_by names values name ≡ known_at_start decls i j name
     start_at name =
         valued values (number_of names name) ∙ at_number (number_of names name) (nat_lt (number_of names name) (length values)) refl
         ∙ ap (started_at i j resolved_all) (number_of-is names name)
@@ -161,5 +161,5 @@ module _ (i : Particle) (j : Source) where
         ∙ ap (λ all. started_at i j all (position_or_len (λ other. bytes_eq other name) (map (λ (d : Decl). d.name) decls ++ assigned))) are
         ∙ started decls assigned name
 
-    pub start_known : known_by names values ≡ at_start decls i j
+    pub start_known : known_by names values ≡ known_at_start decls i j
     start_known = fun_ext start_at

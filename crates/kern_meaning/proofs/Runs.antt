@@ -12,11 +12,11 @@ use Rattle.kern_types.specs.Statements.{slots_in}
 use Rattle.kern_meaning.specs.declared.stop.PairStop.{PairStop}
 use Rattle.kern_meaning.specs.declared.stop.PairStop.TheVariants as pair_stops
 use Rattle.kern_meaning.specs.declared.value.Value.{Value}
-use Rattle.kern_meaning.specs.Names.{at_start}
-use Rattle.kern_meaning.specs.Pair.{State, as_answer, block_meaning, is_same_place, pair_of}
+use Rattle.kern_meaning.specs.Names.{known_at_start}
+use Rattle.kern_meaning.specs.Pair.{PairState, as_answer, block_meaning, is_same_place, pair_of}
 use Rattle.kern_meaning.specs.Stops.{◌>>=◌}
 use Rattle.kern_meaning.specs.Typing.{PairAnswer, HasOnePair}
-use Rattle.kern_meaning.specs.Walks.{HasPlace, HavePlaces, assigned_in, known_by, names_of, state}
+use Rattle.kern_meaning.specs.Walks.{HasPlace, HavePlaces, assigned_in, known_by, names_of, pair_state}
 use Rattle.kern_meaning.proofs.Counts.{block_counted, block_fewer, block_slots_are}
 use Rattle.kern_meaning.proofs.NamePlaces.{placed}
 use Rattle.std.specs.List.{AllByRecursion}
@@ -41,19 +41,19 @@ module _ (kernel : Kernel) (parsed : IsParsed kernel) (limits : KeepsLimits kern
 -- ---- the pair
 
 module _ (kernel : Kernel) (i : Particle) (j : Source) (limits : KeepsLimits kernel) (decls : List Decl) (coincident : Bool) (read : List Stmt) (decls_same : decls ≡ kernel.decls) (co : coincident ≡ is_same_place i.at j.at) (same : read ≡ kernel.body)
-    (names : List (List ℕ)) (values given : List (Option Value)) (known : known_by names values ≡ at_start kernel.decls i j) (empty : given ≡ replicate (slots_in kernel.body) None) where
-  starts : (block_meaning decls coincident read).run 1 0 (state names values given) ≡ (block_meaning kernel.decls (is_same_place i.at j.at) kernel.body).run 1 0 (record { known = at_start kernel.decls i j; given = replicate (block_meaning kernel.decls (is_same_place i.at j.at) kernel.body).slots None })
+    (names : List (List ℕ)) (values given : List (Option Value)) (known : known_by names values ≡ known_at_start kernel.decls i j) (empty : given ≡ replicate (slots_in kernel.body) None) where
+  starts : (block_meaning decls coincident read).run 1 0 (pair_state names values given) ≡ (block_meaning kernel.decls (is_same_place i.at j.at) kernel.body).run 1 0 (record { known = known_at_start kernel.decls i j; given = replicate (block_meaning kernel.decls (is_same_place i.at j.at) kernel.body).slots None })
   starts =
-      ap (λ ds. (block_meaning ds coincident read).run 1 0 (state names values given)) decls_same
-      ∙ ap (λ c. (block_meaning kernel.decls c read).run 1 0 (state names values given)) co
-      ∙ ap (λ b. (block_meaning kernel.decls (is_same_place i.at j.at) b).run 1 0 (state names values given)) same
+      ap (λ ds. (block_meaning ds coincident read).run 1 0 (pair_state names values given)) decls_same
+      ∙ ap (λ c. (block_meaning kernel.decls c read).run 1 0 (pair_state names values given)) co
+      ∙ ap (λ b. (block_meaning kernel.decls (is_same_place i.at j.at) b).run 1 0 (pair_state names values given)) same
       ∙ ap (λ k. (block_meaning kernel.decls (is_same_place i.at j.at) kernel.body).run 1 0 (record { known = k; given = given })) known
-      ∙ ap (λ g. (block_meaning kernel.decls (is_same_place i.at j.at) kernel.body).run 1 0 (record { known = at_start kernel.decls i j; given = g })) (empty ∙ ap (λ n. replicate n None) (sym (block_slots_are kernel.decls (is_same_place i.at j.at) limits.body)))
+      ∙ ap (λ g. (block_meaning kernel.decls (is_same_place i.at j.at) kernel.body).run 1 0 (record { known = known_at_start kernel.decls i j; given = g })) (empty ∙ ap (λ n. replicate n None) (sym (block_slots_are kernel.decls (is_same_place i.at j.at) limits.body)))
 
-  pub pair_given : (after : State) → (block_meaning decls coincident read).run 1 0 (state names values given) ≡ Ok after → pair_of kernel i j ≡ Ok after.given
+  pub pair_given : (after : PairState) → (block_meaning decls coincident read).run 1 0 (pair_state names values given) ≡ Ok after → pair_of kernel i j ≡ Ok after.given
   pair_given after e = ap (λ r. r >>= (λ end. Ok end.given)) (sym starts ∙ e)
 
-  pub pair_stopped : (stop : PairStop) → (block_meaning decls coincident read).run 1 0 (state names values given) ≡ Err stop → pair_of kernel i j ≡ Err stop
+  pub pair_stopped : (stop : PairStop) → (block_meaning decls coincident read).run 1 0 (pair_state names values given) ≡ Err stop → pair_of kernel i j ≡ Err stop
   pair_stopped stop e = ap (λ r. r >>= (λ end. Ok end.given)) (sym starts ∙ e)
 
 -- a typed kernel has an answer

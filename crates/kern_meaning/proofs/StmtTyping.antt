@@ -29,9 +29,9 @@ use Rattle.kern_meaning.specs.declared.stop.Stop.TheVariants as stops
 use Rattle.kern_meaning.specs.declared.value.Value.{Value}
 use Rattle.kern_meaning.specs.declared.value.Value.TheVariants.{Num, Vec3, Condition}
 use Rattle.kern_meaning.specs.Expressions.{value_of, number_value_of, truth_of, contribution_of}
-use Rattle.kern_meaning.specs.Names.{Known, declared_value, name_value, with_assigned}
+use Rattle.kern_meaning.specs.Names.{Known, declared_value, name_value, with_value}
 use Rattle.kern_meaning.specs.Operators.{number, truth, taken_by}
-use Rattle.kern_meaning.specs.Pair.{OrPairStop, State, Statements, at_statement, force_type, declared_force, act_statements, at_stmt, assign, give, choose, act_meaning, block_meaning}
+use Rattle.kern_meaning.specs.Pair.{OrPairStop, PairState, Statements, at_statement, force_type, declared_force, act_statements, at_stmt, assign, give, choose, act_meaning, block_meaning}
 use Rattle.kern_meaning.specs.Stops.{OrStop, ◌>>=◌, only_if}
 use Rattle.kern_meaning.specs.Values.{type_of_value}
 use Rattle.kern_meaning.proofs.DeclTyping.{DeclFits, passed_first, passed_then, tested}
@@ -192,26 +192,26 @@ module _ (decls : List Decl) (i : Particle) (j : Source) (coincident : Bool) (de
   Keeps before after = (name : List ℕ) (variable : Variable) → earlier_assignment before.earlier name ≡ Some variable → earlier_assignment after.earlier name ≡ Some variable
 
   -- statements end in a state that agrees with this scope, or meet a fault
-  abbrev pub Goes : Scope → OrPairStop State → Type 0
+  abbrev pub Goes : Scope → OrPairStop PairState → Type 0
   Goes scope (Ok state) = Agrees scope state.known
   Goes scope (Err (pair_stops.Fault fault)) = Unit {0}
   Goes scope (Err pair_stops.NoResult) = ⊥
 
   pub record IsTypedStep (before after : Scope) (statements : Statements) : Type 0 where
     pub keeps : Keeps before after
-    pub goes : (n slot : ℕ) (state : State) → Agrees before state.known → Goes after (statements.run n slot state)
+    pub goes : (n slot : ℕ) (state : PairState) → Agrees before state.known → Goes after (statements.run n slot state)
 
-  goes_then : (between after : Scope) (answer : OrPairStop State) (next : State → OrPairStop State) → Goes between answer → ((state : State) → Agrees between state.known → Goes after (next state)) → Goes after (answer >>= next)
+  goes_then : (between after : Scope) (answer : OrPairStop PairState) (next : PairState → OrPairStop PairState) → Goes between answer → ((state : PairState) → Agrees between state.known → Goes after (next state)) → Goes after (answer >>= next)
   goes_then between after (Ok state) next h step = step state h
   goes_then between after (Err (pair_stops.Fault fault)) next h step = tt
   goes_then between after (Err pair_stops.NoResult) next h step = h
 
-  goes_on : (between after : Scope) (answer : OrPairStop State) → Goes between answer → ((known : Known) → Agrees between known → Agrees after known) → Goes after answer
+  goes_on : (between after : Scope) (answer : OrPairStop PairState) → Goes between answer → ((known : Known) → Agrees between known → Agrees after known) → Goes after answer
   goes_on between after (Ok state) h step = step state.known h
   goes_on between after (Err (pair_stops.Fault fault)) h step = tt
   goes_on between after (Err pair_stops.NoResult) h step = h
 
-  own_goes : {A : Type 0} (n : ℕ) (after : Scope) (P : A → Type 0) (answer : OrStop A) (next : A → OrPairStop State) → AnswerIs P answer → ((a : A) → P a → Goes after (next a)) → Goes after (at_statement coincident n answer >>= next)
+  own_goes : {A : Type 0} (n : ℕ) (after : Scope) (P : A → Type 0) (answer : OrStop A) (next : A → OrPairStop PairState) → AnswerIs P answer → ((a : A) → P a → Goes after (next a)) → Goes after (at_statement coincident n answer >>= next)
   own_goes n after P (Ok a) next h step = step a h
   own_goes n after P (Err (stops.Fault fault)) next h step = tt
   own_goes n after P (Err stops.NoResult) next h step = absurd h
@@ -238,7 +238,7 @@ module _ (decls : List Decl) (i : Particle) (j : Source) (coincident : Bool) (de
     set_keeps other variable e = find_kept (λ (v : Variable). bytes_eq v.name other) scope.earlier (new_variable ∷ []) variable e
 
     module _ (place : ℕ) (undeclared : declaration decls name ≡ None) (again : again_check place kind scale (earlier_assignment scope.earlier name) ≡ pass) (known : Known) (agrees : Agrees scope known) (v : Value) (typed : IsTypedAs kind scale v) where
-      own_value : (earlier : Option Variable) → earlier_assignment scope.earlier name ≡ earlier → again_check place kind scale earlier ≡ pass → HasValue later (with_assigned known name v) name
+      own_value : (earlier : Option Variable) → earlier_assignment scope.earlier name ≡ earlier → again_check place kind scale earlier ≡ pass → HasValue later (with_value known name v) name
       own_value (Some w) e checked =
           let same = checked_same place w.kind w.scale kind scale checked in
           record {
@@ -258,8 +258,8 @@ module _ (decls : List Decl) (i : Particle) (j : Source) (coincident : Bool) (de
         bounded = typed.1;
       }
 
-      set_assigned : (other : List ℕ) (b : Bool) → bytes_eq name other ≡ b → is_among later.certain other ≡ true → HasValue later (with_assigned known name v) other
-      set_assigned other true e certain = subst (λ (n : List ℕ). HasValue later (with_assigned known name v) n) (named_same name other e) (own_value (earlier_assignment scope.earlier name) refl again)
+      set_assigned : (other : List ℕ) (b : Bool) → bytes_eq name other ≡ b → is_among later.certain other ≡ true → HasValue later (with_value known name v) other
+      set_assigned other true e certain = subst (λ (n : List ℕ). HasValue later (with_value known name v) n) (named_same name other e) (own_value (earlier_assignment scope.earlier name) refl again)
       set_assigned other false e certain =
           let h : HasValue scope known other = agrees.assigned other (among_earlier scope.certain name other certain e) in
           record {
@@ -271,12 +271,12 @@ module _ (decls : List Decl) (i : Particle) (j : Source) (coincident : Bool) (de
             bounded = h.bounded;
           }
 
-      set_declared : (other : List ℕ) (b : Bool) → bytes_eq name other ≡ b → (decl : Decl) → declaration decls other ≡ Some decl → with_assigned known name v other ≡ declared_value i j decl.what
+      set_declared : (other : List ℕ) (b : Bool) → bytes_eq name other ≡ b → (decl : Decl) → declaration decls other ≡ Some decl → with_value known name v other ≡ declared_value i j decl.what
       set_declared other true e decl is =
           absurd (let f : declaration decls other ≡ None = subst (λ (n : List ℕ). declaration decls n ≡ None) (named_same name other e) undeclared in let no : ⊥ = cc in no)
       set_declared other false e decl is = ap (λ b. cond b (Some v) (known other)) e ∙ agrees.declared other decl is
 
-      set_agrees : Agrees later (with_assigned known name v)
+      set_agrees : Agrees later (with_value known name v)
       set_agrees = record {
         declared = λ other decl is. set_declared other (bytes_eq name other) refl decl is;
         assigned = λ other certain. set_assigned other (bytes_eq name other) refl certain;
@@ -307,7 +307,7 @@ module _ (decls : List Decl) (i : Particle) (j : Source) (coincident : Bool) (de
         subst (λ (s : Scope). IsTypedStep scope s (record { count = 1; slots = 0; run = assign decls coincident name value })) same (record {
           keeps = set_keeps scope name kind scale;
           goes = λ n slot state agrees.
-              own_goes n (later scope name kind scale) (IsTypedAs kind scale) (number_value_of state.known value) (λ held. Ok (record { known = with_assigned state.known name held; given = state.given }))
+              own_goes n (later scope name kind scale) (IsTypedAs kind scale) (number_value_of state.known value) (λ held. Ok (record { known = with_value state.known name held; given = state.given }))
               (number_answers kind scale (value_of state.known value) (fits_as scope state.known agrees (types.Scaled kind scale) small is))
               (λ v typed. set_agrees scope name kind scale place undeclared again state.known agrees v typed);
         })
@@ -360,7 +360,7 @@ module _ (decls : List Decl) (i : Particle) (j : Source) (coincident : Bool) (de
     abbrev last : Scope
     last = record { earlier = second.earlier; certain = common first.certain second.certain }
 
-    if_goes : (n slot : ℕ) (state : State) → Agrees scope state.known → Goes last (choose decls coincident condition body others n slot state)
+    if_goes : (n slot : ℕ) (state : PairState) → Agrees scope state.known → Goes last (choose decls coincident condition body others n slot state)
     if_goes n slot state agrees =
         own_goes n last (λ (b : Bool). Unit {0}) (truth_of state.known condition) (λ holds. cond holds (body.run (n + 1) slot state) (others.run (n + 1 + body.count) (slot + body.slots) state))
         (truth_answers (value_of state.known condition) (fits_as scope state.known agrees types.Condition small is))

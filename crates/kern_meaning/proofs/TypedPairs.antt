@@ -12,8 +12,8 @@ use Rattle.kern_types.specs.Statements.{stmts_after}
 use Rattle.kern_types.specs.WellTyped as typed
 use Rattle.kern_meaning.specs.declared.stop.PairStop.TheVariants as pair_stops
 use Rattle.kern_meaning.specs.declared.value.Value.{Value}
-use Rattle.kern_meaning.specs.Names.{at_start, value_if_declared}
-use Rattle.kern_meaning.specs.Pair.{OrPairStop, State, as_answer, is_same_place, block_meaning, pair_of}
+use Rattle.kern_meaning.specs.Names.{known_at_start, value_if_declared}
+use Rattle.kern_meaning.specs.Pair.{OrPairStop, PairState, as_answer, is_same_place, block_meaning, pair_of}
 use Rattle.kern_meaning.specs.Stops.{◌>>=◌}
 use Rattle.kern_meaning.specs.Typing.{PairAnswer, HasOnePair, Typing}
 use Rattle.kern_meaning.proofs.DeclTyping.{DeclFits, declared_fit, passed_first, passed_then}
@@ -36,7 +36,7 @@ answered kernel i j (Ok given) e h = record { answer = Ok given; is = e; only = 
 answered kernel i j (Err (pair_stops.Fault fault)) e h = record { answer = Err fault; is = e; only = λ other f. same_answer other (Err fault) (sym f ∙ e) }
 answered kernel i j (Err pair_stops.NoResult) e h = absurd h
 
-ended : (decls : List Decl) (i : Particle) (j : Source) (coincident : Bool) (fit : (name : List ℕ) (decl : Decl) → declaration decls name ≡ Some decl → DeclFits i j decl) (scope : Scope) (answer : OrPairStop State)
+ended : (decls : List Decl) (i : Particle) (j : Source) (coincident : Bool) (fit : (name : List ℕ) (decl : Decl) → declaration decls name ≡ Some decl → DeclFits i j decl) (scope : Scope) (answer : OrPairStop PairState)
     → Goes decls i j coincident fit scope answer → HasAnswer (answer >>= (λ end. Ok end.given))
 ended decls i j coincident fit scope (Ok state) h = tt
 ended decls i j coincident fit scope (Err (pair_stops.Fault fault)) h = tt
@@ -50,7 +50,7 @@ typing limits kernel i j parsed (scope, e) =
     let fit = declared_fit i j kernel.decls checked small.decls in
     let coincident : Bool = is_same_place i.at j.at in
     let step = block_typed kernel.decls i j coincident fit small.body typed.at_start scope after in
-    let start : State = record { known = at_start kernel.decls i j; given = replicate (block_meaning kernel.decls coincident kernel.body).slots None } in
+    let start : PairState = record { known = known_at_start kernel.decls i j; given = replicate (block_meaning kernel.decls coincident kernel.body).slots None } in
     let agrees : Agrees kernel.decls i j coincident fit typed.at_start start.known = record {
       declared = λ name decl is. ap (value_if_declared i j) is;
       assigned = λ name among. absurd (let bad : ⊥ = cc in bad);

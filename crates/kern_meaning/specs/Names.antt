@@ -21,8 +21,8 @@ use Rattle.kern_meaning.specs.Values.{value_of_kind}
 
 -- ---- fields
 
-abbrev pub fields : List (List ℕ × Field)
-fields =
+abbrev pub fields_by_name : List (List ℕ × Field)
+fields_by_name =
     (codes "pos", field.Pos)
     ∷ (codes "vel", field.Vel)
     ∷ (codes "mass", field.Mass)
@@ -39,7 +39,7 @@ fields =
 
 -- the field of this name
 abbrev pub field_named : List ℕ → Option Field
-field_named name = option_map (λ row. row.1) (find (λ row. bytes_eq row.0 name) fields)
+field_named name = option_map (λ row. row.1) (find (λ row. bytes_eq row.0 name) fields_by_name)
 
 -- the scale of a field, where it isn't as declared
 abbrev pub scale_of : Field → Option ℕ
@@ -49,8 +49,8 @@ scale_of field.Mass = Some 0
 scale_of field.Count = Some 0
 scale_of _ = None
 
-abbrev pub kind_of : Field → Kind
-kind_of of = if is_vector of then kinds.Vec3 else kinds.Num
+abbrev pub field_kind : Field → Kind
+field_kind of = if is_vector of then kinds.Vec3 else kinds.Num
 
 abbrev pub particle_has : Field → Bool
 particle_has field.Count = false
@@ -62,7 +62,7 @@ source_has _ = true
 
 -- whether a variable of this kind and scale can have the field
 abbrev pub fits : Kind → ℕ → Field → Bool
-fits kind scale of = same_kind (kind_of of) kind && fits_scale (scale_of of) scale
+fits kind scale of = same_kind (field_kind of) kind && fits_scale (scale_of of) scale
 
 -- a variable of this kind and scale of a field, by who has it and by its components
 abbrev pub variable_value : Kind → ℕ → (Field → Bool) → (Field → List ℤ) → Option Field → Option Value
@@ -90,12 +90,12 @@ value_if_declared i j None = None
 value_if_declared i j (Some decl) = declared_value i j decl.what
 
 -- at the start of a pair, under these declarations
-abbrev pub at_start : List Decl → Particle → Source → Known
-at_start decls i j name = value_if_declared i j (declaration decls name)
+abbrev pub known_at_start : List Decl → Particle → Source → Known
+known_at_start decls i j name = value_if_declared i j (declaration decls name)
 
 -- after a name is assigned this value
-abbrev pub with_assigned : Known → List ℕ → Value → Known
-with_assigned known name value other = if bytes_eq name other then Some value else known other
+abbrev pub with_value : Known → List ℕ → Value → Known
+with_value known name value other = if bytes_eq name other then Some value else known other
 
 -- a name without a value has no result
 abbrev pub name_value : Option Value → OrStop Value

@@ -22,21 +22,21 @@ use Rattle.kern_types.specs.declared.expr_type.ExprType.{ExprType}
 use Rattle.kern_types.specs.declared.expr_type.ExprType.TheVariants.{Scaled}
 use Rattle.kern_meaning.specs.declared.value.Value.{Value}
 use Rattle.kern_meaning.specs.declared.value.Value.TheVariants.{Num, Vec3, Condition}
-use Rattle.kern_meaning.specs.Stops.{OrStop, ◌>>=◌, no_result, only_if, counted}
+use Rattle.kern_meaning.specs.Stops.{OrStop, ◌>>=◌, no_result, only_if, number_or_fault}
 use Rattle.kern_meaning.specs.Values.{x_of, y_of, z_of}
 
 -- a num at this scale
 abbrev pub num : ℕ → Result ℤ NumFault → OrStop Value
 num scale answer = do
-  mantissa ← counted answer
+  mantissa ← number_or_fault answer
   Ok (Num mantissa scale)
 
 -- a vec at this scale of these components
 abbrev pub vec_of : ℕ → Result ℤ NumFault → Result ℤ NumFault → Result ℤ NumFault → OrStop Value
 vec_of scale along_x along_y along_z = do
-  x ← counted along_x
-  y ← counted along_y
-  z ← counted along_z
+  x ← number_or_fault along_x
+  y ← number_or_fault along_y
+  z ← number_or_fault along_z
   Ok (Vec3 (x ∷ y ∷ z ∷ []) scale)
 
 -- by the components of a vec

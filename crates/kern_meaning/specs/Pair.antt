@@ -29,7 +29,7 @@ use Rattle.kern_meaning.specs.declared.stop.Stop.{Stop}
 use Rattle.kern_meaning.specs.declared.stop.Stop.TheVariants as stops
 use Rattle.kern_meaning.specs.declared.value.Value.{Value}
 use Rattle.kern_meaning.specs.Expressions.{number_value_of, truth_of, contribution_of}
-use Rattle.kern_meaning.specs.Names.{Known, at_start, with_assigned}
+use Rattle.kern_meaning.specs.Names.{Known, known_at_start, with_value}
 use Rattle.kern_meaning.specs.Stops.{OrStop, ◌>>=◌}
 
 -- a value, or what stopped a pair on the way to it
@@ -62,7 +62,7 @@ is_same_place p q = p.x == q.x && p.y == q.y && p.z == q.z
 
 -- what stands between two statements of a pair: the values of names, and what each `+=` gave so far, if
 -- anything, in text order
-pub record State : Type 0 where
+pub record PairState : Type 0 where
   pub known : Known
   pub given : List (Option Value)
 
@@ -71,7 +71,7 @@ pub record State : Type 0 where
 pub record Statements : Type 0 where
   pub count : ℕ
   pub slots : ℕ
-  pub run : ℕ → ℕ → State → OrPairStop State
+  pub run : ℕ → ℕ → PairState → OrPairStop PairState
 
 abbrev pub block_of : List Statements → Statements
 block_of [] = record { count = 0; slots = 0; run = λ n slot state. Ok state }
@@ -97,19 +97,19 @@ at_stmt stmt = stmt.act
 -- Under these declarations, for a pair at one place or not.
 module _ (decls : List Decl) (coincident : Bool) where
   -- name = value;
-  abbrev pub assign : List ℕ → Expr → ℕ → ℕ → State → OrPairStop State
+  abbrev pub assign : List ℕ → Expr → ℕ → ℕ → PairState → OrPairStop PairState
   assign name value n slot state = do
     held ← at_statement coincident n (number_value_of state.known value)
-    Ok (record { known = with_assigned state.known name held; given = state.given })
+    Ok (record { known = with_value state.known name held; given = state.given })
 
   -- name += value;
-  abbrev pub give : List ℕ → Expr → ℕ → ℕ → State → OrPairStop State
+  abbrev pub give : List ℕ → Expr → ℕ → ℕ → PairState → OrPairStop PairState
   give name value n slot state = do
     given ← at_statement coincident n (contribution_of state.known (force_type (declaration decls name)) value)
     Ok (record { known = state.known; given = slice_set state.given slot (Some given) })
 
   -- only the taken block
-  abbrev pub choose : Expr → Statements → Statements → ℕ → ℕ → State → OrPairStop State
+  abbrev pub choose : Expr → Statements → Statements → ℕ → ℕ → PairState → OrPairStop PairState
   choose condition body others n slot state = do
     holds ← at_statement coincident n (truth_of state.known condition)
     if holds then body.run (n + 1) slot state else others.run (n + 1 + body.count) (slot + body.slots) state
@@ -135,7 +135,7 @@ module _ (decls : List Decl) (coincident : Bool) where
 abbrev pub pair_of : Kernel → Particle → Source → OrPairStop (List (Option Value))
 pair_of kernel i j = do
   let body = block_meaning kernel.decls (is_same_place i.at j.at) kernel.body
-  end ← body.run 1 0 (record { known = at_start kernel.decls i j; given = replicate body.slots None })
+  end ← body.run 1 0 (record { known = known_at_start kernel.decls i j; given = replicate body.slots None })
   Ok end.given
 
 abbrev pub as_answer : {A : Type 0} → Result A PairFault → OrPairStop A

@@ -24,6 +24,6 @@ only_if true answer = answer
 only_if false answer = no_result
 
 -- a number, or the fault of the operation
-abbrev pub counted : Result ℤ NumFault → OrStop ℤ
-counted (Ok number) = Ok number
-counted (Err fault) = Err (stops.Fault fault)
+abbrev pub number_or_fault : Result ℤ NumFault → OrStop ℤ
+number_or_fault (Ok number) = Ok number
+number_or_fault (Err fault) = Err (stops.Fault fault)

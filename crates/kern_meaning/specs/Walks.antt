@@ -11,7 +11,7 @@ use Rattle.kern_tree.specs.declared.stmt.Stmt.{Stmt}
 use Rattle.kern_meaning.specs.declared.stop.PairStop.{PairStop}
 use Rattle.kern_meaning.specs.declared.value.Value.{Value}
 use Rattle.kern_meaning.specs.Names.{Known}
-use Rattle.kern_meaning.specs.Pair.{State, Statements}
+use Rattle.kern_meaning.specs.Pair.{PairState, Statements}
 
 -- ---- numbers of names
 
@@ -49,8 +49,8 @@ known_by names values name = value_at (slice_get values (number_of names name))
 -- ---- statements
 
 -- the state that values by number and slots stand for
-abbrev pub state : List (List ℕ) → List (Option Value) → List (Option Value) → State
-state names values slots = record { known = known_by names values; given = slots }
+abbrev pub pair_state : List (List ℕ) → List (Option Value) → List (Option Value) → PairState
+pair_state names values slots = record { known = known_by names values; given = slots }
 
 abbrev pub HasPlace : List (List ℕ) → List ℕ → Type 0
 HasPlace names name = number_of names name < length names
@@ -62,7 +62,7 @@ pub record HavePlaces (names : List (List ℕ)) (values : List (Option Value)) (
 
 -- The call's answer is that of statements that begin where the first has this number and so many `+=` stand
 -- before it: after them the next number, the count of `+=` and the state, or what stopped them.
-abbrev pub Runs : Result (ℕ × ℕ) PairStop → Statements → ℕ → ℕ → State → State → Type 0
+abbrev pub Runs : Result (ℕ × ℕ) PairStop → Statements → ℕ → ℕ → PairState → PairState → Type 0
 Runs result meaning n slot before after =
     MatchResult result
     (λ reached.

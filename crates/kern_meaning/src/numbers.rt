@@ -1,6 +1,6 @@
 ghost use Rattle.std.specs.Prelude.{◌≡◌, ◌+◌, ◌-◌, Some, None, nat_le, if◌then◌else◌};
 ghost use Rattle.kern_meaning.specs.Operators as rules;
-ghost use Rattle.kern_meaning.specs.Stops.{counted};
+ghost use Rattle.kern_meaning.specs.Stops.{number_or_fault};
 
 use crate::{Stop, Value};
 use pf_num::NumFault;
@@ -10,7 +10,7 @@ const MOST: u32 = 62;
 
 // A number, or the fault of the operation.
 fn number_of(answer: Result<i64, NumFault>) -> Result<i64, Stop>
-    ensures { result ≡ counted answer }
+    ensures { result ≡ number_or_fault answer }
 {
     match answer {
         Ok(number) => Ok(number),

@@ -1,8 +1,8 @@
 ghost use Rattle.std.specs.Prelude.{◌≡◌, ◌+◌, ◌^◌, ◌<◌, [], ◌∷◌, Some, slice_set};
 ghost use Rattle.kern_types.specs.Names.{declaration as declaration_of};
-ghost use Rattle.kern_meaning.specs.Names.{with_assigned};
+ghost use Rattle.kern_meaning.specs.Names.{with_value};
 ghost use Rattle.kern_meaning.specs.Pair as rules;
-ghost use Rattle.kern_meaning.specs.Walks.{HavePlaces, Runs, assigned_by, assigned_in, known_by, state};
+ghost use Rattle.kern_meaning.specs.Walks.{HavePlaces, Runs, assigned_by, assigned_in, known_by, pair_state};
 
 use crate::expression::{contribution_of, number_of, number_value_of, truth_of};
 use crate::{PairFault, PairKind, PairStop, Stop, Value};
@@ -37,7 +37,7 @@ impl Walk<'_> {
             + (rules.block_meaning self.now.decls.now self.now.coincident block.now).slots < 2 ^ 32 }
         requires places { HavePlaces self.now.names.now values.old (assigned_in block.now) }
         ensures { Runs result (rules.block_meaning self.now.decls.now self.now.coincident block.now) first before
-            (state self.now.names.now values.old slots.old) (state self.now.names.now values.new slots.new) }
+            (pair_state self.now.names.now values.old slots.old) (pair_state self.now.names.now values.new slots.new) }
     {
         let mut number = first;
         let mut slot = before;
@@ -64,7 +64,7 @@ impl Walk<'_> {
             + (rules.act_meaning self.now.decls.now self.now.coincident act.now).slots < 2 ^ 32 }
         requires places { HavePlaces self.now.names.now values.old (assigned_by act.now) }
         ensures { Runs result (rules.act_meaning self.now.decls.now self.now.coincident act.now) number slot
-            (state self.now.names.now values.old slots.old) (state self.now.names.now values.new slots.new) }
+            (pair_state self.now.names.now values.old slots.old) (pair_state self.now.names.now values.new slots.new) }
     {
         match act {
             Act::Set(name, value) => {
@@ -140,7 +140,7 @@ impl Walk<'_> {
 // name = value;
 fn assign(names: &[Name], name: &Name, value: Value, values: &mut [Option<Value>])
     requires { HavePlaces names.now values.old (name.now ∷ []) }
-    ensures { known_by names.now values.new ≡ with_assigned (known_by names.now values.old) name.now value }
+    ensures { known_by names.now values.new ≡ with_value (known_by names.now values.old) name.now value }
 {
     let place = number_of(names, name);
     if place < values.len() {

@@ -18,7 +18,7 @@ use Rattle.kern_tree.specs.declared.expr.Op2.TheVariants as op2s
 use Rattle.kern_tree.specs.declared.expr.Op3.{Op3}
 use Rattle.kern_tree.specs.declared.expr.Op3.TheVariants as op3s
 use Rattle.pf_geom.specs.declared.axis.Axis.{Axis}
-use Rattle.kern_tree.specs.Grammar.{node, two, part, operator, literal, variable, bracketed, call1, call2, call3, to_call, to_scale, call, prim, component, post, unary, joined, prod, sum, relation, rel, both, expr_over, expr}
+use Rattle.kern_tree.specs.Grammar.{node, two, part, operator, literal, variable, bracketed, call1, call2, call3, to_call, to_scale, call, prim, component, post, unary, joined_from_left, prod, sum, relation, rel, both, expr_over, expr}
 use Rattle.kern_tree.specs.Nodes.{expr_nodes, two_nodes}
 use Rattle.kern_tree.specs.Rules.{Rule, At, ◌or◌, many, symbol}
 use Rattle.kern_tree.specs.Unrolled.{TreesByForm}
@@ -311,7 +311,7 @@ chain_moves levels.Sum kind = refl
 chain_moves levels.Product kind = refl
 
 pub chain_goes : TreesByForm → (level : Level) → ((tokens : List Token) (value : Expr) (rest : List Token) → operand_rule level tokens value rest → Goes (operand_part level) tokens (expr_nodes value) rest)
-    → (tokens : List Token) (value : Expr) (rest : List Token) → joined (operators level) (operand_rule level) tokens value rest → Goes (Part.Chain level) tokens (expr_nodes value) rest
+    → (tokens : List Token) (value : Expr) (rest : List Token) → joined_from_left (operators level) (operand_rule level) tokens value rest → Goes (Part.Chain level) tokens (expr_nodes value) rest
 chain_goes tree level operand_goes tokens value rest h =
     let k = h.3 in
     let more : more_rule level h.1 k.0 rest = subst (λ ts. more_rule level h.1 k.0 ts) k.3.1 k.2 in

@@ -9,7 +9,7 @@ use Rattle.kern_token.specs.declared.token.TokenKind.{TokenKind}
 use Rattle.kern_token.specs.declared.token.TokenKind.TheVariants as kinds
 use Rattle.kern_token.specs.Reading.{AreInOrder, Spells, StandsIn, TokensAreInOrder, TokensStandInText}
 use Rattle.kern_tree.specs.declared.kernel.Kernel.{Kernel}
-use Rattle.kern_tree.specs.FirstFault.{CanGoOn, brackets_after, open_brackets, end_of, StopsAt, IsTooDeep, IsTooManyNodes, HasFault, place_of, rank, IsNoLater, HasFirstFault, IsKernelOf, Parses}
+use Rattle.kern_tree.specs.FirstFault.{CanGoOn, brackets_after, open_brackets, end_of_tokens, StopsAt, IsTooDeep, IsTooManyNodes, HasFault, place_of, rank, IsNoLater, HasFirstFault, IsKernelOf, Parses}
 use Rattle.kern_tree.specs.Grammar.{SpellsKernel}
 use Rattle.kern_tree.specs.Nodes.{kernel_nodes}
 use Rattle.kern_tree.specs.Unrolled.{TreesByForm}
@@ -26,7 +26,7 @@ use Rattle.kern_parse.proofs.Standing.{AreLong, Seen, earlier, here, later, seen
 
 -- where the reading of the tokens begins
 abbrev pub start : List Token → Reading
-start tokens = record { rest = tokens; end = end_of tokens; nodes = 0; depth = 0 }
+start tokens = record { rest = tokens; end = end_of_tokens tokens; nodes = 0; depth = 0 }
 
 -- ---- brackets
 
@@ -81,9 +81,9 @@ module _ (tree : TreesByForm) (tokens : List Token) (those : List Part) (marks :
 -- ---- tokens without a fault
 
 pub whole : TreesByForm → (tokens : List Token) (spelled : Kernel) → SpellsKernel tokens spelled → fault_of (Part.Decls ∷ Part.Stmts ∷ []) (start tokens) ≡ None → IsKernelOf tokens spelled
-whole tree tokens spelled h none = go (reads_on (end_of tokens) start_parts 0 0 tokens) (outcome (end_of tokens) start_parts 0 0 tokens (omega arith) (omega arith)) none
+whole tree tokens spelled h none = go (reads_on (end_of_tokens tokens) start_parts 0 0 tokens) (outcome (end_of_tokens tokens) start_parts 0 0 tokens (omega arith) (omega arith)) none
   where
-    go : (result : Option KernFault) → Outcome (end_of tokens) start_parts 0 0 tokens result → result ≡ None → IsKernelOf tokens spelled
+    go : (result : Option KernFault) → Outcome (end_of_tokens tokens) start_parts 0 0 tokens result → result ≡ None → IsKernelOf tokens spelled
     go result (passes those marks p optional e) is =
         let w = whole_runs tree tokens spelled h in
         let o = one_run start_parts tokens those w.0 marks (kernel_nodes spelled) p.runs w.1 in
@@ -97,7 +97,7 @@ whole tree tokens spelled h none = go (reads_on (end_of tokens) start_parts 0 0 
 
 module _ (tree : TreesByForm) (tokens : List Token) where
   module _ (those : List Part) (marks : List ℕ) (p : Done tokens those marks) (required : are_optional those ≡ false) where
-    first_at_end : (other : KernFault) → HasFault tokens other → IsNoLater (faults.Unexpected (end_of tokens)) other
+    first_at_end : (other : KernFault) → HasFault tokens other → IsNoLater (faults.Unexpected (end_of_tokens tokens)) other
     first_at_end (faults.Unexpected place) (inl h) = let s : StopsAt tokens h.0 = h.2 in absurd (s.no_further (done_goes_on tree tokens those marks p s.before h.0 s.after s.stands))
     first_at_end (faults.Unexpected place) (inr h) = inr (sym h.0, omega arith)
     first_at_end (faults.TooDeep place) h = let s : IsTooDeep tokens h.0 = h.2 in absurd (done_not_deep tree tokens those marks p s.before h.0 s.after s.stands s.deep)
@@ -146,7 +146,7 @@ module _ (tree : TreesByForm) (tokens : List Token) where
     }
 
     module _ (in_order : AreInOrder 0 tokens) (long : AreLong tokens) where
-      before_end : token.place < end_of tokens
+      before_end : token.place < end_of_tokens tokens
       before_end = stands_before_end tokens before token after in_order long stands
 
       -- where another token stands
@@ -188,7 +188,7 @@ module _ (tree : TreesByForm) (tokens : List Token) where
 
         first_at : (rank found ≤ 2) ⊎ CanGoOn (before ++ token ∷ []) → (rank found ≤ 3) ⊎ (brackets_after (depth_after 0 before) token.kind ≤ 32) → rank found ≤ 4 → (other : KernFault) → HasFault tokens other → IsNoLater found other
         first_at stop deep few (faults.Unexpected place) (inl h) = first_of_stops (faults.Unexpected place) h.0 h.1 refl stop h.2
-        first_at stop deep few (faults.Unexpected place) (inr h) = let l : token.place < end_of tokens = before_end in let m : place ≡ end_of tokens = h.0 in inl (omega arith)
+        first_at stop deep few (faults.Unexpected place) (inr h) = let l : token.place < end_of_tokens tokens = before_end in let m : place ≡ end_of_tokens tokens = h.0 in inl (omega arith)
         first_at stop deep few (faults.TooDeep place) h = first_of_deep (faults.TooDeep place) h.0 h.1 refl deep h.2
         first_at stop deep few (faults.TooManyNodes place) h = first_of_nodes (faults.TooManyNodes place) h.0 h.1 refl few h.2
         first_at stop deep few (faults.BadByte place) h = absurd h
@@ -201,9 +201,9 @@ same_fault : (a b : KernFault) → Some a ≡ Some b → a ≡ b
 same_fault a b e = cc
 
 module _ (tree : TreesByForm) (tokens : List Token) (in_order : AreInOrder 0 tokens) (long : AreLong tokens) where
-  first_fault : (result : Option KernFault) (found : KernFault) → Outcome (end_of tokens) start_parts 0 0 tokens result → result ≡ Some found → HasFirstFault tokens found
+  first_fault : (result : Option KernFault) (found : KernFault) → Outcome (end_of_tokens tokens) start_parts 0 0 tokens result → result ≡ Some found → HasFirstFault tokens found
   first_fault result found (passes those marks p optional e) is = absurd (let never : None ≡ Some found = sym e ∙ is in cc)
-  first_fault result found (runs_out those marks p required e) is = subst (λ f. HasFirstFault tokens f) (same_fault (faults.Unexpected (end_of tokens)) found (sym e ∙ is))
+  first_fault result found (runs_out those marks p required e) is = subst (λ f. HasFirstFault tokens f) (same_fault (faults.Unexpected (end_of_tokens tokens)) found (sym e ∙ is))
       (record { is_fault = inr (refl, run_out tree tokens those marks p.runs required); first = first_at_end tree tokens those marks p required })
   first_fault result found (refuses before token after those marks stands p none e) is = subst (λ f. HasFirstFault tokens f) (same_fault (faults.Unexpected token.place) found (sym e ∙ is))
       (record {
@@ -223,7 +223,7 @@ module _ (tree : TreesByForm) (tokens : List Token) (in_order : AreInOrder 0 tok
 
 pub fault : TreesByForm → (tokens : List Token) (found : KernFault) → AreInOrder 0 tokens → AllByRecursion (λ token. token.place < token.end) tokens
     → fault_of (Part.Decls ∷ Part.Stmts ∷ []) (start tokens) ≡ Some found → HasFirstFault tokens found
-fault tree tokens found in_order long is = first_fault tree tokens in_order long (reads_on (end_of tokens) start_parts 0 0 tokens) found (outcome (end_of tokens) start_parts 0 0 tokens (omega arith) (omega arith)) is
+fault tree tokens found in_order long is = first_fault tree tokens in_order long (reads_on (end_of_tokens tokens) start_parts 0 0 tokens) found (outcome (end_of_tokens tokens) start_parts 0 0 tokens (omega arith) (omega arith)) is
 
 long_of : (text : List ℕ) (tokens : List Token) → AllByRecursion (StandsIn text) tokens → AllByRecursion (λ token. token.place < token.end) tokens
 long_of text [] h = tt
@@ -235,9 +235,9 @@ fault_in_text tree stand in_order text tokens found h = fault tree tokens found 
 
 -- every text's tokens have an answer
 pub some_answer : TreesByForm → TokensStandInText → TokensAreInOrder → SomeAnswer
-some_answer tree stand in_order text tokens h = go (reads_on (end_of tokens) start_parts 0 0 tokens) (outcome (end_of tokens) start_parts 0 0 tokens (omega arith) (omega arith)) refl
+some_answer tree stand in_order text tokens h = go (reads_on (end_of_tokens tokens) start_parts 0 0 tokens) (outcome (end_of_tokens tokens) start_parts 0 0 tokens (omega arith) (omega arith)) refl
   where
-    go : (result : Option KernFault) → Outcome (end_of tokens) start_parts 0 0 tokens result → reads_on (end_of tokens) start_parts 0 0 tokens ≡ result → (answer : Result Kernel KernFault) × Parses tokens answer
+    go : (result : Option KernFault) → Outcome (end_of_tokens tokens) start_parts 0 0 tokens result → reads_on (end_of_tokens tokens) start_parts 0 0 tokens ≡ result → (answer : Result Kernel KernFault) × Parses tokens answer
     go (Some found) o is = (Err found, fault_in_text tree stand in_order text tokens found h is)
     go None (passes those marks p optional e) is = let k = kernel_here tree tokens those marks p.runs optional in (Ok k.0, whole tree tokens k.0 k.1 is)
     go None (runs_out those marks p required e) is = absurd (cc)

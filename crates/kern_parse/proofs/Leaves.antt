@@ -6,7 +6,7 @@ use Rattle.kern_token.specs.declared.fault.KernFault.{KernFault}
 use Rattle.kern_token.specs.declared.token.TokenKind.{TokenKind}
 use Rattle.kern_token.specs.declared.token.TokenKind.TheVariants as kinds
 use Rattle.kern_tree.specs.declared.expr.Form.TheVariants as forms
-use Rattle.kern_tree.specs.Grammar.{axis, axis_name, node}
+use Rattle.kern_tree.specs.Grammar.{axis, axis_letter, node}
 use Rattle.pf_geom.specs.declared.axis.Axis.{Axis}
 use Rattle.pf_geom.specs.declared.axis.Axis.TheVariants as axes
 use Rattle.kern_parse.specs.inner.Found.{ReadsRule, ReadsExpr, scale_if_any}
@@ -95,7 +95,7 @@ no_axis called next is none = rw is (ap axis_move none)
 
 chosen_axis : (called : List ℕ) (x y z : Bool) (along : Axis)
     → (x ≡ true → called ≡ codes "x") → (y ≡ true → called ≡ codes "y") → (z ≡ true → called ≡ codes "z")
-    → cond x (Some axes.X) (cond y (Some axes.Y) (cond z (Some axes.Z) None)) ≡ Some along → called ≡ axis_name along
+    → cond x (Some axes.X) (cond y (Some axes.Y) (cond z (Some axes.Z) None)) ≡ Some along → called ≡ axis_letter along
 chosen_axis called true y z axes.X hx hy hz is = hx refl
 chosen_axis called true y z axes.Y hx hy hz is = cc
 chosen_axis called true y z axes.Z hx hy hz is = cc
@@ -107,7 +107,7 @@ chosen_axis called false false true axes.Y hx hy hz is = cc
 chosen_axis called false false true axes.Z hx hy hz is = hz refl
 chosen_axis called false false false along hx hy hz is = cc
 
-axis_is : (called : List ℕ) (along : Axis) → axis_at called ≡ Some along → called ≡ axis_name along
+axis_is : (called : List ℕ) (along : Axis) → axis_at called ≡ Some along → called ≡ axis_letter along
 axis_is called along is = chosen_axis called (bytes_eq called (codes "x")) (bytes_eq called (codes "y")) (bytes_eq called (codes "z")) along
     (λ h. (bytes_eq-Decides called (codes "x")).0 h) (λ h. (bytes_eq-Decides called (codes "y")).0 h) (λ h. (bytes_eq-Decides called (codes "z")).0 h) is
 

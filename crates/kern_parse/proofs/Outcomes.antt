@@ -5,7 +5,7 @@ use Rattle.kern_token.specs.declared.fault.KernFault.{KernFault}
 use Rattle.kern_token.specs.declared.fault.KernFault.TheVariants as faults
 use Rattle.kern_token.specs.declared.token.Token.{Token}
 use Rattle.kern_tree.specs.FirstFault.{brackets_after}
-use Rattle.kern_parse.specs.inner.Leading.{nodes_after, counted, step, reads_on}
+use Rattle.kern_parse.specs.inner.Leading.{nodes_after, at_counted_node, step, reads_on}
 use Rattle.kern_parse.specs.Required.{Part, Move, moves, are_optional}
 use Rattle.kern_parse.proofs.ExpressionTokens.{mark}
 use Rattle.kern_parse.proofs.Runs.{Runs}
@@ -81,7 +81,7 @@ nothing_passed parts nodes depth few shallow = record { runs = (refl, refl); sha
 module _ (end : ℕ) (parts : List Part) (nodes depth : ℕ) (token : Token) (rest : List Token) (found : Move) (moved : moves parts token.kind ≡ Some found) (few : nodes ≤ 512) (shallow : depth ≤ 32) (result : Option KernFault) where
   counted_outcome : (is_node full : Bool) → found.is_node ≡ is_node → nat_le 512 nodes ≡ full → brackets_after depth token.kind ≤ 32
       → (nodes_after found.is_node nodes ≤ 512 → Outcome end found.then (nodes_after found.is_node nodes) (brackets_after depth token.kind) rest result)
-      → Outcome end parts nodes depth (token ∷ rest) (counted is_node full token.place result)
+      → Outcome end parts nodes depth (token ∷ rest) (at_counted_node is_node full token.place result)
   counted_outcome true true is_node full_is undeep later = too_many [] token rest parts [] found refl (nothing_passed parts nodes depth few shallow) moved undeep is_node (let k : 511 < nodes = full_of nodes full_is in omega arith) refl
   counted_outcome true false is_node full_is undeep later =
       one_more end parts nodes depth token rest found moved shallow result (later (subst (λ b. nodes_after b nodes ≤ 512) (sym is_node) (let k : nodes ≤ 511 = few_of nodes full_is in omega arith)))

@@ -21,7 +21,7 @@ use Rattle.kern_tree.specs.declared.stmt.Act.TheVariants as acts
 use Rattle.kern_tree.specs.declared.stmt.Stmt.{Stmt}
 use Rattle.pf_geom.specs.declared.axis.Axis.{Axis}
 use Rattle.pf_geom.specs.declared.axis.Axis.TheVariants as axes
-use Rattle.kern_tree.specs.Grammar.{decl_node, decl, field_of, axis_name, operator, relation, component, expr, stmt_node, stmt, stmt_over, block}
+use Rattle.kern_tree.specs.Grammar.{decl_node, decl, field_of, axis_letter, operator, relation, component, expr, stmt_node, stmt, stmt_over, block}
 use Rattle.kern_tree.specs.Nodes.{stmt_nodes}
 use Rattle.kern_tree.specs.Rules.{At, many}
 use Rattle.kern_tree.specs.Unrolled.{TreesByForm}
@@ -69,8 +69,8 @@ some_axis false true c along P x y z e = let f : axes.Y ≡ along = cc in subst 
 some_axis false false true along P x y z e = let f : axes.Z ≡ along = cc in subst P f (z refl)
 some_axis false false false along P x y z e = absurd (let never : None ≡ Some along = e in cc)
 
-axis_told : (name : List ℕ) (along : Axis) → axis_at name ≡ Some along → name ≡ axis_name along
-axis_told name along e = some_axis (bytes_eq name (codes "x")) (bytes_eq name (codes "y")) (bytes_eq name (codes "z")) along (λ a. name ≡ axis_name a)
+axis_told : (name : List ℕ) (along : Axis) → axis_at name ≡ Some along → name ≡ axis_letter along
+axis_told name along e = some_axis (bytes_eq name (codes "x")) (bytes_eq name (codes "y")) (bytes_eq name (codes "z")) along (λ a. name ≡ axis_letter a)
     ((bytes_eq-Decides name (codes "x")).0) ((bytes_eq-Decides name (codes "y")).0) ((bytes_eq-Decides name (codes "z")).0) e
 
 -- ---- what follows an operand
@@ -128,7 +128,7 @@ completes_axis (kinds.Name name) = go (axis_at name) refl
     go : (along : Option Axis) → axis_at name ≡ along → CompletesBy Part.AxisName (kinds.Name name) (axis_move along)
     go None e = tt
     go (Some along) e = λ place end tokens places rest h.
-        ([], (along, (place, (end, ap (λ name. at (kinds.Name name) place end ∷ tokens) (axis_told name along e) ∙ ap (λ ts. at (kinds.Name (axis_name along)) place end ∷ ts) h.1)), refl))
+        ([], (along, (place, (end, ap (λ name. at (kinds.Name name) place end ∷ tokens) (axis_told name along e) ∙ ap (λ ts. at (kinds.Name (axis_letter along)) place end ∷ ts) h.1)), refl))
 completes_axis _ = tt
 
 completes_exactly : (wanted : Symbol) (kind : TokenKind) → Completes (Part.Exactly wanted) kind

@@ -10,7 +10,7 @@ use Rattle.kern_tree.specs.declared.kernel.Decl.{Decl}
 use Rattle.kern_tree.specs.declared.stmt.Act.TheVariants as acts
 use Rattle.kern_tree.specs.declared.stmt.Stmt.{Stmt}
 use Rattle.pf_geom.specs.declared.axis.Axis.{Axis}
-use Rattle.kern_tree.specs.Grammar.{kind, combine, decl, signed, axis, operator, component, joined, prim, post, unary, prod, sum, relation, rel, two, both, expr, block, stmt}
+use Rattle.kern_tree.specs.Grammar.{kind, combine, decl, signed, axis, operator, component, joined_from_left, prim, post, unary, prod, sum, relation, rel, two, both, expr, block, stmt}
 use Rattle.kern_tree.specs.Nodes.{expr_nodes, stmt_nodes}
 use Rattle.kern_tree.specs.Rules.{Rule, At, ◌>>=◌, ◌>>◌, ◌or◌, pure, many, symbol, word, name, number, scale}
 use Rattle.kern_parse.specs.declared.operators.Level.{Level}
@@ -104,7 +104,7 @@ part_rule Part.Assign = seen ((symbol symbols.Assign >> pure acts.Set) or (symbo
 part_rule Part.Block = seen (block stmt) (flat_map stmt_nodes)
 part_rule Part.ElseBlock = seen else_block (flat_map stmt_nodes)
 part_rule (Part.Exactly wanted) = seen (symbol wanted) no_node
-part_rule (Part.Chain level) = seen (joined (operators level) (operand_rule level)) expr_nodes
+part_rule (Part.Chain level) = seen (joined_from_left (operators level) (operand_rule level)) expr_nodes
 part_rule (Part.More level) = seen (more_rule level) (flat_map more_nodes)
 part_rule Part.Rel = seen (rel expr) expr_nodes
 part_rule Part.MoreRel = seen more_rel (flat_map more_nodes)

@@ -20,7 +20,7 @@ use Rattle.kern_tree.specs.declared.stmt.Act.TheVariants as acts
 use Rattle.kern_tree.specs.declared.stmt.Stmt.{Stmt}
 use Rattle.pf_geom.specs.declared.axis.Axis.{Axis}
 use Rattle.pf_geom.specs.declared.axis.Axis.TheVariants as axes
-use Rattle.kern_tree.specs.Grammar.{kind, combine, decl, field_of, force, param, signed, axis, axis_name, operator, component, sum, relation, expr, assignment, block, conditional, stmt_node, stmt_over, stmt}
+use Rattle.kern_tree.specs.Grammar.{kind, combine, decl, field_of, force, param, signed, axis, axis_letter, operator, component, sum, relation, expr, assignment, block, conditional, stmt_node, stmt_over, stmt}
 use Rattle.kern_tree.specs.Nodes.{expr_nodes, stmt_nodes}
 use Rattle.kern_tree.specs.Rules.{Rule, At, ◌>>◌, ◌or◌, pure, many, symbol}
 use Rattle.kern_tree.specs.Unrolled.{TreesByForm}
@@ -159,7 +159,7 @@ same_self : (spelled : Symbol) → same_symbol spelled spelled ≡ true
 same_self symbols.Plus = refl
 same_self _ = refl
 
-axis_moved : (along : Axis) → move Part.AxisName (kinds.Name (axis_name along)) ≡ Some (record { then = []; is_node = false })
+axis_moved : (along : Axis) → move Part.AxisName (kinds.Name (axis_letter along)) ≡ Some (record { then = []; is_node = false })
 axis_moved axes.X = refl
 axis_moved axes.Y = refl
 axis_moved axes.Z = refl
@@ -418,4 +418,4 @@ part_goes tree Part.Post tokens places rest h = inl (with_places _ tokens rest _
 part_goes tree Part.MorePost tokens places rest h = any_with_places _ tokens rest _ places h.2 (components_go h.0 tokens rest h.1)
 part_goes tree Part.Prim tokens places rest h = inl (with_places _ tokens rest _ places h.2 (prim_goes tree tokens h.0 rest h.1))
 part_goes tree Part.ScaleIfAny tokens places rest h = scale_if_any_goes tokens rest places h.2 h.0 h.1
-part_goes tree Part.AxisName tokens places rest h = inl (token_goes Part.AxisName (kinds.Name (axis_name h.0)) (h.1).0 ((h.1).1).0 tokens rest places (axis_moved h.0) ((h.1).1).1 h.2)
+part_goes tree Part.AxisName tokens places rest h = inl (token_goes Part.AxisName (kinds.Name (axis_letter h.0)) (h.1).0 ((h.1).1).0 tokens rest places (axis_moved h.0) ((h.1).1).1 h.2)

@@ -3,7 +3,7 @@ use Rattle.std.proofs.Common.{◌≡◌, ℕ, ◌<◌, ◌≤◌, List, [], ◌�
 use Rattle.std.specs.List.{AllByRecursion}
 use Rattle.kern_token.specs.declared.token.Token.{Token}
 use Rattle.kern_token.specs.Reading.{AreInOrder}
-use Rattle.kern_tree.specs.FirstFault.{end_of}
+use Rattle.kern_tree.specs.FirstFault.{end_of_tokens}
 
 abbrev pub AreLong : List Token → Type 0
 AreLong tokens = AllByRecursion (λ token. token.place < token.end) tokens
@@ -73,10 +73,10 @@ stands_later tokens before token after middle token' after' h k e f =
     omega arith
 
 -- the end of the tokens is at a later place than each
-pub stands_before_end : (tokens before : List Token) (token : Token) (after : List Token) → AreInOrder 0 tokens → AreLong tokens → tokens ≡ before ++ token ∷ after → token.place < end_of tokens
+pub stands_before_end : (tokens before : List Token) (token : Token) (after : List Token) → AreInOrder 0 tokens → AreLong tokens → tokens ≡ before ++ token ∷ after → token.place < end_of_tokens tokens
 stands_before_end tokens before token after h k e =
     let o = in_order_after 0 before token after (subst (λ ts. AreInOrder 0 ts) e h) (subst (λ ts. AreLong ts) e k) in
     let l : token.end ≤ end_from token.end after = no_end_before token.end after o.1 o.2 in
     let m : token.place < token.end = o.0 in
-    let n : end_of tokens ≡ end_from token.end after = ap (λ ts. end_from 0 ts) e ∙ end_after 0 before token after in
+    let n : end_of_tokens tokens ≡ end_from token.end after = ap (λ ts. end_from 0 ts) e ∙ end_after 0 before token after in
     omega arith

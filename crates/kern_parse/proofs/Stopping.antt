@@ -3,7 +3,7 @@ use Rattle.std.proofs.Common.{◌≡◌, ℕ, List, [], ◌∷◌, ◌++◌, Boo
 use Rattle.kern_token.specs.declared.fault.KernFault.TheVariants as faults
 use Rattle.kern_token.specs.declared.token.Token.{Token}
 use Rattle.kern_tree.specs.declared.kernel.Kernel.{Kernel}
-use Rattle.kern_tree.specs.FirstFault.{end_of, StopsAt, RunOut, HasFault}
+use Rattle.kern_tree.specs.FirstFault.{end_of_tokens, StopsAt, RunOut, HasFault}
 use Rattle.kern_tree.specs.Grammar.{SpellsKernel}
 use Rattle.kern_tree.specs.Unrolled.{TreesByForm}
 use Rattle.kern_parse.specs.ReadingStops.{stop_here, stop_from, reading_stop, UnexpectedIsTheStop}
@@ -96,20 +96,20 @@ module _ (tree : TreesByForm) (tokens : List Token) where
     where
       go : (those : List Part) (marks : List ℕ) → Runs start_parts s.before those marks → (m : Option Move) → moves those token.kind ≡ m → reading_stop tokens ≡ Some token.place
       go those marks runs None e =
-          ap (λ ts. stop_from (end_of tokens) start_parts ts) s.stands
-          ∙ stop_along (end_of tokens) start_parts s.before those marks (token ∷ s.after) runs
-          ∙ stop_token (end_of tokens) those token s.after e
+          ap (λ ts. stop_from (end_of_tokens tokens) start_parts ts) s.stands
+          ∙ stop_along (end_of_tokens tokens) start_parts s.before those marks (token ∷ s.after) runs
+          ∙ stop_token (end_of_tokens tokens) those token s.after e
       go those marks runs (Some found) e = absurd (s.no_further (can_go_on tree (s.before ++ token ∷ []) found.then (marks ++ (mark found.is_node token.place ++ []))
           (runs_append start_parts s.before (token ∷ []) those found.then marks (mark found.is_node token.place ++ []) runs (found, [], e, (refl, refl), refl))))
 
-  at_end : RunOut tokens → reading_stop tokens ≡ Some (end_of tokens)
+  at_end : RunOut tokens → reading_stop tokens ≡ Some (end_of_tokens tokens)
   at_end w = let r = runs_of tree tokens w.so_far in go r.0 r.1 r.2 (are_optional r.0) refl
     where
-      go : (those : List Part) (marks : List ℕ) → Runs start_parts tokens those marks → (b : Bool) → are_optional those ≡ b → reading_stop tokens ≡ Some (end_of tokens)
+      go : (those : List Part) (marks : List ℕ) → Runs start_parts tokens those marks → (b : Bool) → are_optional those ≡ b → reading_stop tokens ≡ Some (end_of_tokens tokens)
       go those marks runs true e = let k = kernel_here tree tokens those marks runs e in absurd (w.not_whole k.0 k.1)
       go those marks runs false e =
-          ap (λ ts. stop_from (end_of tokens) start_parts ts) (sym (append-nil tokens))
-          ∙ stop_along (end_of tokens) start_parts tokens those marks [] runs ∙ stop_end (end_of tokens) those e
+          ap (λ ts. stop_from (end_of_tokens tokens) start_parts ts) (sym (append-nil tokens))
+          ∙ stop_along (end_of_tokens tokens) start_parts tokens those marks [] runs ∙ stop_end (end_of_tokens tokens) those e
 
   fault_stops : (place : ℕ) → HasFault tokens (faults.Unexpected place) → reading_stop tokens ≡ Some place
   fault_stops place (inl h) = at_token h.0 h.2 ∙ ap (λ p. Some p) (sym h.1)
@@ -144,9 +144,9 @@ stopped end parts (token ∷ rest) place e = go (moves parts token.kind) refl (�
     go None is later k = refused [] token rest parts [] refl (refl, refl) is (same_place token.place place k)
     go (Some found) is later k = stopped_later end parts token rest place found is (later found.then k)
 
-stop_is_fault : TreesByForm → (tokens : List Token) (place : ℕ) → Stopped (end_of tokens) start_parts tokens place → HasFault tokens (faults.Unexpected place)
+stop_is_fault : TreesByForm → (tokens : List Token) (place : ℕ) → Stopped (end_of_tokens tokens) start_parts tokens place → HasFault tokens (faults.Unexpected place)
 stop_is_fault tree tokens place (ended those marks runs required is) = inr (is, run_out tree tokens those marks runs required)
 stop_is_fault tree tokens place (refused before token after those marks stands runs none is) = inl (token, is, stops_at tree tokens before token after those marks stands runs none)
 
 pub unexpected_is_the_stop : TreesByForm → UnexpectedIsTheStop
-unexpected_is_the_stop tree tokens place = (fault_stops tree tokens place, λ e. stop_is_fault tree tokens place (stopped (end_of tokens) start_parts tokens place e))
+unexpected_is_the_stop tree tokens place = (fault_stops tree tokens place, λ e. stop_is_fault tree tokens place (stopped (end_of_tokens tokens) start_parts tokens place e))

@@ -5,7 +5,7 @@ use Rattle.kern_token.specs.declared.fault.KernFault.TheVariants as faults
 use Rattle.kern_token.specs.declared.token.Token.{Token}
 use Rattle.kern_token.specs.Reading.{Spells}
 use Rattle.kern_tree.specs.declared.kernel.Kernel.{Kernel}
-use Rattle.kern_tree.specs.FirstFault.{end_of, HasFault, Parses}
+use Rattle.kern_tree.specs.FirstFault.{end_of_tokens, HasFault, Parses}
 use Rattle.kern_parse.specs.Required.{Part, Move, moves, are_optional}
 
 -- at a token that stands at this place: what the grammar tells, and where the reading stops later
@@ -21,7 +21,7 @@ stop_from end parts (token ∷ rest) = stop_here token.place (moves parts token.
 
 -- of a kernel, which is declarations and then statements
 abbrev pub reading_stop : List Token → Option ℕ
-reading_stop tokens = stop_from (end_of tokens) (Part.Decls ∷ Part.Stmts ∷ []) tokens
+reading_stop tokens = stop_from (end_of_tokens tokens) (Part.Decls ∷ Part.Stmts ∷ []) tokens
 
 -- Unexpected stands where the reading stops, and nowhere else
 abbrev pub UnexpectedIsTheStop : Type 0

@@ -2,7 +2,7 @@ ghost use Rattle.std.specs.Prelude.{◌≡◌, ◌<◌, ◌≤◌, ◌^◌, ◌+
 ghost use Rattle.std.specs.Prelude.{MatchOption, IfOk, IfErr, OnOk};
 ghost use Rattle.std.specs.Option.{option_copied};
 ghost use Rattle.kern_token.specs.declared.fault.KernFault.TheVariants.{Memory};
-ghost use Rattle.kern_tree.specs.FirstFault.{brackets_after, end_of};
+ghost use Rattle.kern_tree.specs.FirstFault.{brackets_after, end_of_tokens};
 ghost use Rattle.kern_parse.specs.inner.Found.{ReadsToken};
 ghost use Rattle.kern_parse.specs.inner.Leading.{Halts};
 ghost use Rattle.kern_parse.specs.inner.Reading.{AreInLimit, next_kind, next_place, Takes, TakesNode, IsFull};
@@ -41,7 +41,7 @@ impl<'a> Model for Reader<'a> {
 impl<'a> Reader<'a> {
     pub(crate) fn new(alloc: Global, toks: &'a [Token]) -> Self
         requires { AreInLimit toks.now }
-        ensures { result ≡ record { rest = toks.now; end = end_of toks.now; nodes = 0; depth = 0 } }
+        ensures { result ≡ record { rest = toks.now; end = end_of_tokens toks.now; nodes = 0; depth = 0 } }
     {
         let end = match toks.last() {
             Some(token) => token.end,

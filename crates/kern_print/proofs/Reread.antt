@@ -17,7 +17,7 @@ use Rattle.kern_tree.specs.declared.expr.Op2.{Op2}
 use Rattle.kern_tree.specs.declared.expr.Op2.TheVariants as ops2
 use Rattle.kern_tree.specs.declared.expr.Op3.{Op3}
 use Rattle.pf_geom.specs.declared.axis.Axis.{Axis}
-use Rattle.kern_tree.specs.Grammar.{node, two, part, operator, joined, to_scale, component, call1, call2, call3, post, prim, unary, prod, relation, rel, both, expr_over, expr_within, axis_name}
+use Rattle.kern_tree.specs.Grammar.{node, two, part, operator, joined_from_left, to_scale, component, call1, call2, call3, post, prim, unary, prod, relation, rel, both, expr_over, expr_within, axis_letter}
 use Rattle.kern_tree.specs.Rules.{Rule, At, ◌>>=◌, ◌or◌, pure, many, never, symbol}
 use Rattle.kern_tree.specs.Unrolled.{TreesByForm}
 use Rattle.kern_print.proofs.Alike.{Alike, alike_number, alike_name, alike_part, alike_one, alike_two, alike_three, alike_to}
@@ -45,7 +45,7 @@ pair operators operand = do
 
 -- the tokens begin with this expression, which further operators may take as their left operand
 abbrev Joins : Rule (At Op2) → Rule Expr → List Token → Expr → List Token → Type 0
-Joins operators operand tokens e rest = (more : List (At Op2 × Expr)) (end : List Token) → many (pair operators operand) rest more end → joined operators operand tokens (fold two e more) end
+Joins operators operand tokens e rest = (more : List (At Op2 × Expr)) (end : List Token) → many (pair operators operand) rest more end → joined_from_left operators operand tokens (fold two e more) end
 
 -- the same with components
 abbrev Parts : Rule Expr → List Token → Expr → List Token → Type 0
@@ -200,7 +200,7 @@ module _ (tree : TreesByForm) where
     bare_reads (held.part {place = p} {axis = axis} h) k deep place rest =
         let pa : List Piece = held_pieces h in
         let r : ℕ = place_after place pa in
-        let tail : List Piece = sym_of symbols.Dot ∷ name_of (axis_name axis) ∷ [] in
+        let tail : List Piece = sym_of symbols.Dot ∷ name_of (axis_letter axis) ∷ [] in
         let a = held_reads h k deep place (onto r tail rest) in
         record {
           read = node r (forms.Part a.read axis);

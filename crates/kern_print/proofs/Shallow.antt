@@ -12,7 +12,7 @@ use Rattle.kern_tree.specs.declared.expr.Op2.{Op2}
 use Rattle.kern_tree.specs.declared.kernel.Decl.{Decl}
 use Rattle.kern_tree.specs.declared.stmt.Stmt.{Stmt}
 use Rattle.kern_tree.specs.FirstFault.{brackets_after, IsShallow}
-use Rattle.kern_tree.specs.Grammar.{axis_name}
+use Rattle.kern_tree.specs.Grammar.{axis_letter}
 use Rattle.kern_print.proofs.Decls.{decl_pieces, decls_pieces, small_pieces, last_pieces}
 use Rattle.kern_print.proofs.Held as held
 use Rattle.kern_print.proofs.Held.{Infix, Bare, Held}
@@ -78,7 +78,7 @@ mutual
   bare_shallow (held.literal {depth = depth} {mantissa = m} {bits = b} small fits) place rest limit h = literal_shallow m b depth place rest limit h
   bare_shallow (held.variable name) place rest limit h = (limit, h)
   bare_shallow (held.part {depth = depth} {axis = axis} a) place rest limit h =
-      let tail : List Piece = sym_of symbols.Dot ∷ name_of (axis_name axis) ∷ [] in
+      let tail : List Piece = sym_of symbols.Dot ∷ name_of (axis_letter axis) ∷ [] in
       apart depth place (held_pieces a) tail rest (held_shallow a place (onto (place_after place (held_pieces a)) tail rest) limit (limit, (limit, h)))
   bare_shallow (held.sign held.neg a) place rest limit h = (limit, held_shallow a (place + 1) rest limit h)
   bare_shallow (held.sign held.not a) place rest limit h = (limit, held_shallow a (place + 1) rest limit h)

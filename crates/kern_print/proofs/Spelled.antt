@@ -11,7 +11,7 @@ use Rattle.kern_token.specs.declared.token.Word.TheVariants as words
 use Rattle.kern_token.specs.Pieces.{Piece, IsPiece, IsName, IsNameLike, IsScale, is_name_start}
 use Rattle.kern_token.specs.Spelling.{word_text}
 use Rattle.kern_tree.specs.declared.expr.Expr.{Expr}
-use Rattle.kern_tree.specs.Grammar.{axis_name}
+use Rattle.kern_tree.specs.Grammar.{axis_letter}
 use Rattle.pf_geom.specs.declared.axis.Axis.{Axis}
 use Rattle.pf_geom.specs.declared.axis.Axis.TheVariants as axes
 use Rattle.kern_print.proofs.Held.{Bare, Held, bare, bracket, literal, variable, part, sign, two, call1, call2, call3, to, neg, not, isqrt, abs, least, most, muldiv, build}
@@ -28,7 +28,7 @@ abbrev mutual
   pub bare_pieces : {depth level : ℕ} {e : Expr} → Bare depth level e → List Piece
   bare_pieces (literal {mantissa = m} {bits = b} small limit) = literal_pieces m b
   bare_pieces (variable {called = n} name) = name_of n ∷ []
-  bare_pieces (part {axis = axis} a) = held_pieces a ++ (sym_of symbols.Dot ∷ name_of (axis_name axis) ∷ [])
+  bare_pieces (part {axis = axis} a) = held_pieces a ++ (sym_of symbols.Dot ∷ name_of (axis_letter axis) ∷ [])
   bare_pieces (sign {s = s} known a) = sym_of s ∷ held_pieces a
   bare_pieces (two {s = s} known a b) = held_pieces a ++ (gap ∷ sym_of s ∷ gap ∷ held_pieces b)
   bare_pieces (call1 {w = w} known d a) = word_of w ∷ sym_of symbols.OpenRound ∷ (held_pieces a ++ closed)
@@ -118,7 +118,7 @@ mutual
   pub bare_starts : {depth level : ℕ} {e : Expr} (h : Bare depth level e) → Starts (bytes_of (bare_pieces h))
   bare_starts (literal {mantissa = m} {bits = b} small limit) = literal_starts m b small
   bare_starts (variable {called = n} name) = starts_more n [] (names_start n name.name_like)
-  bare_starts (part {axis = axis} a) = starts_append (held_pieces a) (sym_of symbols.Dot ∷ name_of (axis_name axis) ∷ []) (held_starts a)
+  bare_starts (part {axis = axis} a) = starts_append (held_pieces a) (sym_of symbols.Dot ∷ name_of (axis_letter axis) ∷ []) (held_starts a)
   bare_starts (sign neg a) = (λ e. omega arith, λ e. omega arith, λ e. omega arith)
   bare_starts (sign not a) = (λ e. omega arith, λ e. omega arith, λ e. omega arith)
   bare_starts (two {s = s} known a b) = starts_append (held_pieces a) (gap ∷ sym_of s ∷ gap ∷ held_pieces b) (held_starts a)
@@ -162,7 +162,7 @@ heads a b xs ys e = cc
 no_scale : (b : ℕ) → b ≢ 83 → (n : ℕ) → IsScale n (b ∷ []) → ⊥
 no_scale b other n h = other (heads b 83 [] (decimal n) h.spelled)
 
-pub axis_is_name : (axis : Axis) → IsName (axis_name axis)
+pub axis_is_name : (axis : Axis) → IsName (axis_letter axis)
 axis_is_name axes.X = record { name_like = (refl, tt); no_word = no_word 120; no_scale = no_scale 120 (λ e. omega arith) }
 axis_is_name axes.Y = record { name_like = (refl, tt); no_word = no_word 121; no_scale = no_scale 121 (λ e. omega arith) }
 axis_is_name axes.Z = record { name_like = (refl, tt); no_word = no_word 122; no_scale = no_scale 122 (λ e. omega arith) }
@@ -197,8 +197,8 @@ literal_stops : (m b : ℕ) (rest : List ℕ) → m < 2 ^ 63 → b ≤ 62 → Ed
 literal_stops m zero rest small limit edge = number_before m [] rest small edge tt
 literal_stops m (suc b) rest small limit edge = number_before m (gap ∷ scale_of (suc b) ∷ []) rest small edge_32 (gap_before (scale_of (suc b) ∷ []) rest (scale_before (suc b) [] rest limit edge tt))
 
-axis_starts : (axis : Axis) → Starts (axis_name axis)
-axis_starts axis = names_start (axis_name axis) (axis_is_name axis).name_like
+axis_starts : (axis : Axis) → Starts (axis_letter axis)
+axis_starts axis = names_start (axis_letter axis) (axis_is_name axis).name_like
 
 closed_stops : (rest : List ℕ) → Edge rest → Stops closed rest
 closed_stops rest edge = sym_before symbols.CloseRound [] rest (edge_calm rest edge) tt
@@ -221,8 +221,8 @@ mutual
   bare_stops (literal {mantissa = m} {bits = b} small limit) rest edge = literal_stops m b rest small limit edge
   bare_stops (variable {called = n} name) rest edge = name_before n [] rest name edge tt
   bare_stops (part {axis = axis} a) rest edge =
-      Stops-append (held_pieces a) (sym_of symbols.Dot ∷ name_of (axis_name axis) ∷ []) rest (held_stops a (bytes_of (sym_of symbols.Dot ∷ name_of (axis_name axis) ∷ []) ++ rest) edge_46)
-      (sym_before symbols.Dot (name_of (axis_name axis) ∷ []) rest (calm_of (name_of (axis_name axis) ∷ []) rest (starts_more (axis_name axis) [] (axis_starts axis))) (name_before (axis_name axis) [] rest (axis_is_name axis) edge tt))
+      Stops-append (held_pieces a) (sym_of symbols.Dot ∷ name_of (axis_letter axis) ∷ []) rest (held_stops a (bytes_of (sym_of symbols.Dot ∷ name_of (axis_letter axis) ∷ []) ++ rest) edge_46)
+      (sym_before symbols.Dot (name_of (axis_letter axis) ∷ []) rest (calm_of (name_of (axis_letter axis) ∷ []) rest (starts_more (axis_letter axis) [] (axis_starts axis))) (name_before (axis_letter axis) [] rest (axis_is_name axis) edge tt))
   bare_stops (sign {s = s} known a) rest edge = sym_before s (held_pieces a) rest (calm_of (held_pieces a) rest (held_starts a)) (held_stops a rest edge)
   bare_stops (two {s = s} known a b) rest edge =
       Stops-append (held_pieces a) (gap ∷ sym_of s ∷ gap ∷ held_pieces b) rest (held_stops a (bytes_of (gap ∷ sym_of s ∷ gap ∷ held_pieces b) ++ rest) edge_32)

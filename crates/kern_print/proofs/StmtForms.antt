@@ -7,26 +7,26 @@ use Rattle.kern_tree.specs.declared.stmt.Act.TheVariants as acts
 use Rattle.kern_tree.specs.declared.stmt.Act.TheFolds.{fold-roll-Act, fold-Stmt, fold_out-Stmt}
 use Rattle.kern_tree.specs.declared.stmt.Act.TheOpen as layers
 use Rattle.kern_tree.specs.declared.stmt.Stmt.{Stmt}
-use Rattle.kern_print.specs.Canonical.{Lines, act_lines, act_text, block_lines, else_lines, lines_of, stmt_text}
+use Rattle.kern_print.specs.Canonical.{Lines, act_lines, act_text, block_lines, else_lines, stmt_lines, stmt_text}
 use Rattle.kern_print.specs.Expressions.{expr_text}
 
-by_fold : (s : Stmt) → fold-Stmt Lines Lines act_lines lines_of s ≡ stmt_text s
-by_fold s = fold_out-Stmt Lines Lines act_lines lines_of s
+by_fold : (s : Stmt) → fold-Stmt Lines Lines act_lines stmt_lines s ≡ stmt_text s
+by_fold s = fold_out-Stmt Lines Lines act_lines stmt_lines s
 
-all_by_fold : (block : List Stmt) → map (fold-Stmt Lines Lines act_lines lines_of) block ≡ map stmt_text block
+all_by_fold : (block : List Stmt) → map (fold-Stmt Lines Lines act_lines stmt_lines) block ≡ map stmt_text block
 all_by_fold [] = refl
-all_by_fold (s ∷ block) = ap (λ x. x ∷ map (fold-Stmt Lines Lines act_lines lines_of) block) (by_fold s) ∙ ap (λ x. stmt_text s ∷ x) (all_by_fold block)
+all_by_fold (s ∷ block) = ap (λ x. x ∷ map (fold-Stmt Lines Lines act_lines stmt_lines) block) (by_fold s) ∙ ap (λ x. stmt_text s ∷ x) (all_by_fold block)
 
 pub set_form : (n : List ℕ) (e : Expr) → act_text (acts.Set n e) ≡ act_lines (layers.Set n e)
-set_form n e = ap act_text (sym (acts.rolls-Set n e)) ∙ fold-roll-Act Lines Lines act_lines lines_of (layers.Set n e)
+set_form n e = ap act_text (sym (acts.rolls-Set n e)) ∙ fold-roll-Act Lines Lines act_lines stmt_lines (layers.Set n e)
 
 pub give_form : (n : List ℕ) (e : Expr) → act_text (acts.Give n e) ≡ act_lines (layers.Give n e)
-give_form n e = ap act_text (sym (acts.rolls-Give n e)) ∙ fold-roll-Act Lines Lines act_lines lines_of (layers.Give n e)
+give_form n e = ap act_text (sym (acts.rolls-Give n e)) ∙ fold-roll-Act Lines Lines act_lines stmt_lines (layers.Give n e)
 
 pub if_form : (condition : Expr) (block other : List Stmt) → act_text (acts.If condition block other) ≡ act_lines (layers.If condition (map stmt_text block) (map stmt_text other))
 if_form condition block other =
-    ap act_text (sym (acts.rolls-If condition block other)) ∙ fold-roll-Act Lines Lines act_lines lines_of (layers.If condition block other)
-    ∙ ap (λ x. act_lines (layers.If condition x (map (fold-Stmt Lines Lines act_lines lines_of) other))) (all_by_fold block)
+    ap act_text (sym (acts.rolls-If condition block other)) ∙ fold-roll-Act Lines Lines act_lines stmt_lines (layers.If condition block other)
+    ∙ ap (λ x. act_lines (layers.If condition x (map (fold-Stmt Lines Lines act_lines stmt_lines) other))) (all_by_fold block)
     ∙ ap (λ x. act_lines (layers.If condition (map stmt_text block) x)) (all_by_fold other)
 
 pub block_by_statements : (block : List Stmt) (depth : ℕ) → block_lines (map stmt_text block) depth ≡ flat_map (λ stmt. stmt_text stmt depth) block

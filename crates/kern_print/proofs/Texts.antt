@@ -12,7 +12,7 @@ use Rattle.kern_tree.specs.declared.expr.Form.TheOpen as layers
 use Rattle.kern_tree.specs.declared.expr.Op1.{Op1}
 use Rattle.kern_tree.specs.declared.expr.Op2.{Op2}
 use Rattle.kern_tree.specs.declared.expr.Op3.{Op3}
-use Rattle.kern_tree.specs.Grammar.{axis_name}
+use Rattle.kern_tree.specs.Grammar.{axis_letter}
 use Rattle.pf_geom.specs.declared.axis.Axis.{Axis}
 use Rattle.pf_geom.specs.declared.axis.Axis.TheVariants as axes
 use Rattle.kern_print.specs.Expressions.{Operand, in_brackets, operand_text, literal_text, axis_text}
@@ -63,7 +63,7 @@ call3_shown : {w : Word} {op : Op3} → Call3 w op → (x y z : Operand) (n : �
 call3_shown muldiv x y z n = refl
 call3_shown build x y z n = refl
 
-same_axis : (axis : Axis) → axis_text axis ≡ axis_name axis
+same_axis : (axis : Axis) → axis_text axis ≡ axis_letter axis
 same_axis axes.X = refl
 same_axis axes.Y = refl
 same_axis axes.Z = refl
@@ -98,8 +98,8 @@ mutual
   bare_text (variable {called = c} name) n = ap (λ f. f n) (name_form c) ∙ ap (shown 7 n) (sym (append-nil c))
   bare_text (part {a = a} {axis = axis} h) n =
       ap (λ f. f n) (part_form a axis)
-      ∙ ap (shown 7 n) (append_assoc (operand_text a 7) (codes ".") (axis_text axis) ∙ ap (λ x. operand_text a 7 ++ (46 ∷ x)) (same_axis axis ∙ sym (append-nil (axis_name axis)))
-      ∙ behind (held_pieces h) (sym_of symbols.Dot ∷ name_of (axis_name axis) ∷ []) (operand_text a 7) (held_text h))
+      ∙ ap (shown 7 n) (append_assoc (operand_text a 7) (codes ".") (axis_text axis) ∙ ap (λ x. operand_text a 7 ++ (46 ∷ x)) (same_axis axis ∙ sym (append-nil (axis_letter axis)))
+      ∙ behind (held_pieces h) (sym_of symbols.Dot ∷ name_of (axis_letter axis) ∷ []) (operand_text a 7) (held_text h))
   bare_text (sign {s = s} {op = op} {a = a} known h) n =
       ap (λ f. f n) (one_form op a) ∙ sign_shown known (operand_text a) n ∙ ap (λ x. shown 6 n (symbol_text s ++ x)) (held_text h)
   bare_text (two {level = level} {left = left} {s = s} {op = op} {a = a} {b = b} known h k) n =

@@ -20,7 +20,7 @@ use Rattle.kern_tree.specs.declared.expr.Op3.{Op3}
 use Rattle.kern_tree.specs.declared.expr.Op3.TheVariants as ops3
 use Rattle.kern_tree.specs.FirstFault.{brackets_after}
 use Rattle.pf_geom.specs.declared.axis.Axis.{Axis}
-use Rattle.kern_tree.specs.Grammar.{node, two, part, operator, joined, to_scale, literal, variable, component, bracketed, call1, call2, call3, to_call, prim, post, unary, prod, sum, relation, rel, both, expr_over, expr_within, expr}
+use Rattle.kern_tree.specs.Grammar.{node, two, part, operator, joined_from_left, to_scale, literal, variable, component, bracketed, call1, call2, call3, to_call, prim, post, unary, prod, sum, relation, rel, both, expr_over, expr_within, expr}
 use Rattle.kern_tree.specs.Rules.{Rule, At, ◌>>=◌, ◌or◌, pure, many, never, token}
 use Rattle.kern_print.proofs.Held as held
 use Rattle.kern_print.proofs.Held.{Infix, Sign, Call1, Call2, Call3, Bare, Held, held_lower, held_bracketed}
@@ -140,7 +140,7 @@ joined_more level operators operand ops keeps (x ∷ more) first tokens rest dep
     joined_more level operators operand ops keeps more (two first x) between rest depth others whole (subst (λ (ts : List Token). Fit depth ts) stop r.1)
 
 joined_keeps : (level : ℕ) (operators : Rule (At Op2)) (operand : Rule Expr) → Operators level level operators → Keeps (λ depth e. Held depth (suc level) e) operand
-    → Keeps (λ depth e. Held depth level e) (joined operators operand)
+    → Keeps (λ depth e. Held depth level e) (joined_from_left operators operand)
 joined_keeps level operators operand ops keeps tokens value rest depth (first, t1, read, (more, t2, others, (same, stop))) fit =
     let f = keeps tokens first t1 depth read fit in
     let g = joined_more level operators operand ops keeps more first t1 t2 depth others (held_lower level (omega arith) f.0) f.1 in

@@ -68,11 +68,11 @@ act_lines (acts.If condition block other) depth =
     line depth (codes "if " ++ expr_text condition ++ codes " {") ++ block_lines block (depth + 1)
     ++ else_lines other depth ++ line depth (codes "}")
 
-abbrev pub lines_of : Stmt-F Lines Lines → Lines
-lines_of stmt = stmt.act
+abbrev pub stmt_lines : Stmt-F Lines Lines → Lines
+stmt_lines stmt = stmt.act
 
 abbrev pub act_text : Act → Lines
-act_text = fold-Act Lines Lines act_lines lines_of
+act_text = fold-Act Lines Lines act_lines stmt_lines
 
 abbrev pub stmt_text : Stmt → Lines
 stmt_text stmt = act_text stmt.act

@@ -11,12 +11,12 @@ use Rattle.kern_token.specs.declared.token.Word.{Word}
 use Rattle.kern_token.specs.declared.token.Word.TheVariants as words
 use Rattle.kern_token.specs.declared.token.Symbol.{Symbol}
 use Rattle.kern_token.specs.declared.token.Symbol.TheVariants as symbols
-use Rattle.kern_token.specs.Pieces.{IsPiece, is_name_start, is_blank}
+use Rattle.kern_token.specs.Pieces.{IsPiece, is_name_start, is_space}
 use Rattle.kern_token.specs.Spelling.{word_text, symbol_text}
 
 -- blanks and `#` are 0, a name's first byte is 1, a digit is 2, and any other byte is 3
 abbrev pub class_of : ℕ → ℕ
-class_of b = cond (is_blank b || eqb b 35) 0 (cond (is_name_start b) 1 (cond (is_ascii_digit b) 2 3))
+class_of b = cond (is_space b || eqb b 35) 0 (cond (is_name_start b) 1 (cond (is_ascii_digit b) 2 3))
 
 abbrev pub class_of_kind : Option TokenKind → ℕ
 class_of_kind None = 0
@@ -26,7 +26,7 @@ class_of_kind (Some (kinds.Scale scale)) = 1
 class_of_kind (Some (kinds.Number number)) = 2
 class_of_kind (Some (kinds.Symbol symbol)) = 3
 
-pub class_of-blank : (b : ℕ) → is_blank b ≡ true → class_of b ≡ 0
+pub class_of-blank : (b : ℕ) → is_space b ≡ true → class_of b ≡ 0
 class_of-blank b blank = grind (arith, nat_tests)
 
 pub class_of-name_start : (b : ℕ) → is_name_start b ≡ true → class_of b ≡ 1
@@ -121,7 +121,7 @@ symbol_size symbols.Not = inl refl
 -- a piece is of the class of its first byte
 pub class_of_piece : (kind : Option TokenKind) (b : ℕ) (bytes : List ℕ) → IsPiece (record { kind = kind; bytes = b ∷ bytes }) → class_of b ≡ class_of_kind kind
 class_of_piece None b bytes piece =
-    ⊎_elim (λ (blank : (is_blank b ≡ true) × (bytes ≡ [])). class_of-blank b blank.0) (λ comment. ap class_of comment.0) piece
+    ⊎_elim (λ (blank : (is_space b ≡ true) × (bytes ≡ [])). class_of-blank b blank.0) (λ comment. ap class_of comment.0) piece
 class_of_piece (Some (kinds.Name name)) b bytes piece = class_of-name_start b piece.1.name_like.0
 class_of_piece (Some (kinds.Word word)) b bytes piece =
     ap (λ (xs : List ℕ). class_of (get_or xs 0 35)) piece ∙ word_class word

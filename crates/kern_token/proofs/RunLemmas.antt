@@ -14,7 +14,7 @@ use Rattle.kern_token.specs.declared.token.TokenKind.TheVariants as kinds
 use Rattle.kern_token.specs.declared.token.Word.{Word}
 use Rattle.kern_token.specs.declared.token.Word.TheVariants as words
 use Rattle.kern_token.proofs.FirstBytes.{class_of, class_of_kind, class_of_piece, class_of-name_start, class_of-digit, digit_test, digit_value_below}
-use Rattle.kern_token.specs.Pieces.{Piece, IsToken, IsNameLike, IsPiece, Begins, is_name_byte, is_name_start, is_blank}
+use Rattle.kern_token.specs.Pieces.{Piece, IsToken, IsNameLike, IsPiece, Begins, is_name_byte, is_name_start, is_space}
 use Rattle.kern_token.specs.Spelling.{word_text}
 use Rattle.kern_token.proofs.Decimals.{decimal_forms}
 
@@ -132,7 +132,7 @@ line_passes (b ∷ bytes) line = (ap not (ne_eqb b 10 line.0), line_passes bytes
 comment_piece : (kind : Option TokenKind) (bytes : List ℕ) → 0 ≡ class_of_kind kind → IsPiece (record { kind = kind; bytes = 35 ∷ bytes }) → EachPasses is_line_byte (35 ∷ bytes)
 comment_piece None bytes same piece =
     ⊎_elim
-    (λ (blank : (is_blank 35 ≡ true) × (bytes ≡ [])). let never : is_blank 35 ≡ true = blank.0 in cc)
+    (λ (blank : (is_space 35 ≡ true) × (bytes ≡ [])). let never : is_space 35 ≡ true = blank.0 in cc)
     (λ comment. (refl, line_passes bytes comment.1))
     piece
 comment_piece (Some (kinds.Name name)) bytes same piece = absurd (omega arith)

@@ -16,7 +16,7 @@ use Rattle.kern_token.specs.declared.token.TokenKind.{TokenKind}
 use Rattle.kern_token.specs.declared.token.TokenKind.TheVariants as kinds
 use Rattle.kern_token.specs.declared.token.Word.{Word}
 use Rattle.kern_token.specs.declared.token.Symbol.{Symbol}
-use Rattle.kern_token.specs.Pieces.{Piece, Begins, IsScale, IsNameLike, IsToken, is_blank, is_name_start, is_name_byte}
+use Rattle.kern_token.specs.Pieces.{Piece, Begins, IsScale, IsNameLike, IsToken, is_space, is_name_start, is_name_byte}
 use Rattle.kern_token.specs.Reading.{IsInLimit, Splits, place_after, tokens_of, BeginsBadly, BeginsTooLarge, Reads}
 use Rattle.kern_token.specs.Spelling.{word_text, symbol_text}
 use Rattle.kern_token.specs.Stopping.{StopsBefore}
@@ -118,7 +118,7 @@ comment_front b text hash =
       in_limit = tt;
     })
 
-blank_front : (b : ℕ) (text : List ℕ) → is_blank b ≡ true → HasFront (b ∷ text)
+blank_front : (b : ℕ) (text : List ℕ) → is_space b ≡ true → HasFront (b ∷ text)
 blank_front b text blank =
     inl (record { piece = record { kind = None; bytes = b ∷ [] }; rest = text; begins = Begins-blank b text blank; in_limit = tt })
 
@@ -179,20 +179,20 @@ symbol_front b (c ∷ text) class =
     (symbol_or_none (b ∷ [])))
     (symbol_or_none (b ∷ c ∷ []))
 
-other_class : (b : ℕ) → is_blank b ≡ false → (b ≡ 35 → ⊥) → is_name_start b ≡ false → is_ascii_digit b ≡ false → class_of b ≡ 3
+other_class : (b : ℕ) → is_space b ≡ false → (b ≡ 35 → ⊥) → is_name_start b ≡ false → is_ascii_digit b ≡ false → class_of b ≡ 3
 other_class b no_blank no_hash no_name no_digit = grind (arith, nat_tests)
 
 some_front : (b : ℕ) (text : List ℕ) → HasFront (b ∷ text)
 some_front b text =
     ⊎_elim (blank_front b text)
-    (λ (no_blank : is_blank b ≡ false). ⊎_elim (comment_front b text)
+    (λ (no_blank : is_space b ≡ false). ⊎_elim (comment_front b text)
     (λ (no_hash : b ≡ 35 → ⊥). ⊎_elim (name_front b text)
     (λ (no_name : is_name_start b ≡ false). ⊎_elim (digits_front b text)
     (λ (no_digit : is_ascii_digit b ≡ false). symbol_front b text (other_class b no_blank no_hash no_name no_digit))
     (cases_Bool (is_ascii_digit b)))
     (cases_Bool (is_name_start b)))
     (cases_eq b 35))
-    (cases_Bool (is_blank b))
+    (cases_Bool (is_space b))
 
 -- the pieces of a text as far as they go
 record HasPieces (text : List ℕ) : Type 0 where

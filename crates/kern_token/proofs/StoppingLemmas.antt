@@ -7,7 +7,7 @@ use Rattle.std.specs.List.{AllByRecursion, prefix_len}
 use Rattle.kern_token.specs.declared.token.Symbol.{Symbol}
 use Rattle.kern_token.specs.declared.token.TokenKind.{TokenKind}
 use Rattle.kern_token.specs.declared.token.TokenKind.TheVariants as kinds
-use Rattle.kern_token.specs.Pieces.{Piece, IsPiece, Begins, is_name_byte, is_blank}
+use Rattle.kern_token.specs.Pieces.{Piece, IsPiece, Begins, is_name_byte, is_space}
 use Rattle.kern_token.specs.Spelling.{symbol_text}
 use Rattle.kern_token.specs.Stopping.{StopsBefore}
 use Rattle.kern_token.proofs.FirstBytes.{class_of, class_of_kind, class_of_piece, class_of-blank, name_start_from_class, digit_from_class, symbol_size, IsPiece-nonempty}
@@ -38,13 +38,13 @@ run_stops test piece rest whole ends runs =
           omega arith;
     }
 
-not_blank_and_hash : (b : ℕ) → is_blank b ≡ true → b ≡ 35 → ⊥
+not_blank_and_hash : (b : ℕ) → is_space b ≡ true → b ≡ 35 → ⊥
 not_blank_and_hash b blank hash = grind (arith, nat_tests)
 
-blank_piece : (kind : Option TokenKind) (b : ℕ) (bytes : List ℕ) → is_blank b ≡ true → 0 ≡ class_of_kind kind → IsPiece (record { kind = kind; bytes = b ∷ bytes }) → length (b ∷ bytes) ≤ 1
+blank_piece : (kind : Option TokenKind) (b : ℕ) (bytes : List ℕ) → is_space b ≡ true → 0 ≡ class_of_kind kind → IsPiece (record { kind = kind; bytes = b ∷ bytes }) → length (b ∷ bytes) ≤ 1
 blank_piece None b bytes blank same piece =
     ⊎_elim
-    (λ (one : (is_blank b ≡ true) × (bytes ≡ [])). omega (arith, ap length one.1))
+    (λ (one : (is_space b ≡ true) × (bytes ≡ [])). omega (arith, ap length one.1))
     (λ comment. absurd (not_blank_and_hash b blank comment.0))
     piece
 blank_piece (Some (kinds.Name name)) b bytes blank same piece = absurd (omega arith)
@@ -54,7 +54,7 @@ blank_piece (Some (kinds.Number number)) b bytes blank same piece = absurd (omeg
 blank_piece (Some (kinds.Symbol symbol)) b bytes blank same piece = absurd (omega arith)
 
 -- a blank is a piece by itself
-pub Begins-blank : (b : ℕ) (text : List ℕ) → is_blank b ≡ true → Begins (b ∷ text) (record { kind = None; bytes = b ∷ [] }) text
+pub Begins-blank : (b : ℕ) (text : List ℕ) → is_space b ≡ true → Begins (b ∷ text) (record { kind = None; bytes = b ∷ [] }) text
 Begins-blank b text blank = record {
   whole = inl (blank, refl);
   front = refl;
@@ -148,7 +148,7 @@ begins_at : (kind : Option TokenKind) (bytes rest : List ℕ) → IsPiece (recor
 begins_at kind [] rest piece stops = absurd (omega (arith, IsPiece-nonempty kind [] piece))
 begins_at None (b ∷ bytes) rest piece stops =
     ⊎_elim
-    (λ (blank : (is_blank b ≡ true) × (bytes ≡ [])).
+    (λ (blank : (is_space b ≡ true) × (bytes ≡ [])).
     subst (λ (bs : List ℕ). Begins ((b ∷ bs) ++ rest) (record { kind = None; bytes = b ∷ bs }) rest) (sym blank.1) (Begins-blank b rest blank.0))
     (λ (comment : (b ≡ 35) × AllByRecursion (λ c. c ≢ 10) bytes).
     run_stops is_line_byte (record { kind = None; bytes = b ∷ bytes }) rest piece (line_ends rest b bytes comment.0 stops) (comment_fronts b (bytes ++ rest) comment.0))

@@ -12,8 +12,8 @@ use Rattle.kern_token.specs.declared.token.Word.{Word}
 use Rattle.kern_token.specs.Spelling.{word_text, symbol_text}
 
 -- tab, line feed, carriage return and space
-abbrev pub is_blank : ℕ → Bool
-is_blank b = b == 9 || b == 10 || b == 13 || b == 32
+abbrev pub is_space : ℕ → Bool
+is_space b = b == 9 || b == 10 || b == 13 || b == 32
 
 -- a letter or `_`
 abbrev pub is_name_start : ℕ → Bool
@@ -26,7 +26,7 @@ is_name_byte b = is_name_start b || is_ascii_digit b
 -- one blank, or `#` and bytes of its line
 abbrev pub IsSeparator : List ℕ → Type 0
 IsSeparator [] = ⊥
-IsSeparator (b ∷ bytes) = (IsTrue (is_blank b) × (bytes ≡ [])) ⊎ ((b ≡ 35) × AllByRecursion (λ c. c ≢ 10) bytes)
+IsSeparator (b ∷ bytes) = (IsTrue (is_space b) × (bytes ≡ [])) ⊎ ((b ≡ 35) × AllByRecursion (λ c. c ≢ 10) bytes)
 
 -- `S` and the scale in decimal, without leading zeros
 pub record IsScale (scale : ℕ) (bytes : List ℕ) : Type 0 where

@@ -1,9 +1,9 @@
 ghost use Rattle.std.specs.Prelude.{◌≡◌};
-ghost use Rattle.kern_token.specs.Pieces.{is_blank, is_name_start, is_name_byte};
+ghost use Rattle.kern_token.specs.Pieces.{is_space, is_name_start, is_name_byte};
 
 // Tab, line feed, carriage return and space.
-pub(crate) fn is_blank(byte: u8) -> bool
-    ensures { result ≡ is_blank byte }
+pub(crate) fn is_space(byte: u8) -> bool
+    ensures { result ≡ is_space byte }
 {
     matches!(byte, b'\t' | b'\n' | b'\r' | b' ')
 }

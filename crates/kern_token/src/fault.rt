@@ -23,9 +23,9 @@ pub enum KernFault {
 
 impl fmt::Display for KernFault {
     ghost use Rattle.std.specs.Prelude.{Some};
-    ghost use Rattle.kern_token.specs.FaultText.{fault_text};
+    ghost use Rattle.kern_token.specs.FaultText.{kernel_fault_text};
 
-    ghost output = { λ fault. Some (fault_text fault) };
+    ghost output = { λ fault. Some (kernel_fault_text fault) };
 
     fn fmt<W: fmt::Write>(&self, f: &mut fmt::Formatter<W>) -> fmt::Result {
         match self {

@@ -1,11 +1,11 @@
 ghost use Rattle.std.specs.Prelude.{◌≡◌, ℕ, ◌<◌, ◌⊎◌, length, IfOk, IfErr, MatchOption, IsTrue, IsFalse, slice_index};
 ghost use Rattle.std.specs.Char.{is_ascii_digit};
 ghost use Rattle.kern_token.specs.Front.{HasFront};
-ghost use Rattle.kern_token.specs.Pieces.{IsNameLike, IsToken, is_name_byte, is_name_start, is_blank};
+ghost use Rattle.kern_token.specs.Pieces.{IsNameLike, IsToken, is_name_byte, is_name_start, is_space};
 ghost use Rattle.kern_token.specs.Reading.{IsFaultAt, IsInLimit, BeginsBadly};
 ghost use Rattle.kern_token.specs.declared.fault.KernFault.TheVariants.{Memory};
 
-use crate::bytes::{is_blank, is_name_start};
+use crate::bytes::{is_name_start, is_space};
 use crate::number::number_of;
 use crate::runs::{digits_len, line_len, name_len};
 use crate::spelling::{double_symbol, scale_of, single_symbol, word_of};
@@ -26,7 +26,7 @@ pub(crate) fn front_of(alloc: Global, text: &[u8], place: u32) -> Result<Front, 
     ensures err { IfErr result (λ fault. (fault ≡ Memory) ⊎ IsFaultAt fault place text.now) }
 {
     let first = text[0];
-    if is_blank(first) {
+    if is_space(first) {
         return Ok(Front { kind: None, len: 1 });
     }
     if first == b'#' {
@@ -92,7 +92,7 @@ fn number_front(text: &[u8], place: u32) -> Result<Front, KernFault>
 
 fn symbol_front(text: &[u8]) -> Option<Front>
     requires nonempty { 0 < length text.now }
-    requires no_blank { IsFalse (is_blank (slice_index text.now 0)) }
+    requires no_blank { IsFalse (is_space (slice_index text.now 0)) }
     requires no_comment { slice_index text.now 0 ≡ 35 → ⊥ }
     requires no_name_byte { IsFalse (is_name_byte (slice_index text.now 0)) }
     ensures { MatchOption result (BeginsBadly text.now) (λ front. HasFront text.now front) }

@@ -17,7 +17,7 @@ use Rattle.kern_tree.specs.declared.expr.Op3.TheVariants as op3s
 use Rattle.pf_geom.specs.declared.axis.Axis.{Axis}
 use Rattle.pf_geom.specs.declared.axis.Axis.TheVariants as axes
 use Rattle.kern_tree.specs.Rules.{Rule, At, ◌>>=◌, ◌or◌, pure, many, never}
-use Rattle.kern_tree.specs.Grammar.{node, axis_name, axis, operator, two, joined, to_scale, literal, variable, component, part, bracketed, call1, call2, call3, to_call, call, prim, post, unary, prod, sum, relation, rel, both, expr_over, expr_within, expr}
+use Rattle.kern_tree.specs.Grammar.{node, axis_letter, axis, operator, two, joined_from_left, to_scale, literal, variable, component, part, bracketed, call1, call2, call3, to_call, call, prim, post, unary, prod, sum, relation, rel, both, expr_over, expr_within, expr}
 use Rattle.kern_tree.specs.Nodes.{two_nodes, expr_nodes}
 use Rattle.kern_tree.proofs.Classes.{word_class, symbol_class}
 use Rattle.kern_tree.proofs.DeclLaws.{none, at_here, solid, same_name, good_symbol, node_symbol, node_word, node_name, good_number, node_number, good_scale}
@@ -29,7 +29,7 @@ use Rattle.kern_tree.proofs.Shapes.{Shape, Good, Sound, same, same_front, pure_s
 axis_differs : (a b : List ℕ) (x y : ℕ) (xs ys : List ℕ) → a ≡ x ∷ xs → b ≡ y ∷ ys → (x ≡ y → ⊥) → a ≡ b → ⊥
 axis_differs a b x y xs ys e f differ g = differ (same_front x y xs ys (sym e ∙ g ∙ f)).0
 
-same_axis : (v w : Axis) → axis_name v ≡ axis_name w → v ≡ w
+same_axis : (v w : Axis) → axis_letter v ≡ axis_letter w → v ≡ w
 same_axis axes.X axes.X e = refl
 same_axis axes.X axes.Y e = absurd (axis_differs (codes "x") (codes "y") 120 121 [] [] refl refl (λ f. omega arith) e)
 same_axis axes.X axes.Z e = absurd (axis_differs (codes "x") (codes "z") 120 122 [] [] refl refl (λ f. omega arith) e)
@@ -42,7 +42,7 @@ same_axis axes.Z axes.Z e = refl
 
 sound_axis : Sound axis (token_shape 0) none []
 sound_axis tokens along rest h =
-    let t : Token = record { kind = kinds.Name (axis_name along); place = h.0; end = h.1.0 } in
+    let t : Token = record { kind = kinds.Name (axis_letter along); place = h.0; end = h.1.0 } in
     record {
       read = t ∷ [];
       split = h.1.1;
@@ -59,7 +59,7 @@ good_axis = record {
   sound_two = sound_axis;
   alike = λ tokens v w rest other h k.
       (let fronts = same_front _ _ rest other (sym h.1.1 ∙ k.1.1) in
-      same (same_axis v w (same_name (axis_name v) (axis_name w) (ap (λ (t : Token). t.kind) fronts.0))) fronts.1);
+      same (same_axis v w (same_name (axis_letter v) (axis_letter w) (ap (λ (t : Token). t.kind) fronts.0))) fronts.1);
 }
 
 -- ---- operators and what they join
@@ -113,7 +113,7 @@ module _ {operators : Rule (At Op2)} {operand operand' : Rule Expr} {s t : Shape
       good_pure (op, right) operand_nodes (op.place ∷ expr_nodes right) refl) fits_right) fits_operation
 
   module _ (fits_tail : IsTrue (then_fits (many_shape (operation_shape s t)) pure_shape)) (fits : IsTrue (then_fits t (then_shape (many_shape (operation_shape s t)) pure_shape))) where
-    pub good_joined : Good (joined operators operand) (joined operators operand') (joined_shape s t) expr_nodes []
+    pub good_joined : Good (joined_from_left operators operand) (joined_from_left operators operand') (joined_shape s t) expr_nodes []
     good_joined =
         good_then g (λ first.
         good_when (λ more. AllByRecursion (λ m. IsInfix (m.0).held) more) (infix_operations operators operand infix_only) (infix_operations operators operand' infix_only) (good_many good_operation fits_many) (λ more i.

@@ -30,7 +30,7 @@ use Rattle.kern_tree.specs.declared.stmt.Act.{Act}
 use Rattle.kern_tree.specs.declared.stmt.Act.TheVariants as acts
 use Rattle.kern_tree.specs.declared.stmt.Stmt.{Stmt}
 use Rattle.pf_geom.specs.declared.axis.Axis.{Axis}
-use Rattle.kern_tree.specs.Grammar.{two, part, stmt_node, operator, joined, axis, literal, variable, component, bracketed, call1, call2, call3, to_call, call, prim, post, unary, prod, sum, relation, rel, both, expr_over, expr_within, expr, assignment, block, conditional, stmt_over, stmt_within, stmt, kind, combine, field_of, force, signed, param, decl, decl_node, SpellsKernel}
+use Rattle.kern_tree.specs.Grammar.{two, part, stmt_node, operator, joined_from_left, axis, literal, variable, component, bracketed, call1, call2, call3, to_call, call, prim, post, unary, prod, sum, relation, rel, both, expr_over, expr_within, expr, assignment, block, conditional, stmt_over, stmt_within, stmt, kind, combine, field_of, force, signed, param, decl, decl_node, SpellsKernel}
 use Rattle.kern_tree.specs.Rules.{Rule, At, ◌>>=◌, ◌>>◌, ◌or◌, pure, many, never, token, symbol, word, name, number, scale}
 use Rattle.kern_tree.specs.Limits as limited
 use Rattle.kern_tree.specs.Limits.{IsLimited, IsLimitedStmt, IsLimitedBlock, HasLimitedScale, HasLimitedValue, KeepsLimits, ParsedKernelsKeepLimits}
@@ -111,7 +111,7 @@ all_fit : (first : Expr) (more : List (At Op2 × Expr)) → Fits first → AllBy
 all_fit first [] h k = h
 all_fit first (m ∷ more) h k = all_fit (two first m) more (two_fits first m h k.0) k.1
 
-keeps_joined : (operators : Rule (At Op2)) (operand : Rule Expr) → Keeps Any operators → Keeps Fits operand → Keeps Fits (joined operators operand)
+keeps_joined : (operators : Rule (At Op2)) (operand : Rule Expr) → Keeps Any operators → Keeps Fits operand → Keeps Fits (joined_from_left operators operand)
 keeps_joined operators operand f g =
     keeps_then Fits Fits g (λ first first_fits.
     keeps_then (AllByRecursion (λ (m : At Op2 × Expr). Fits m.1)) Fits (keeps_many (λ (m : At Op2 × Expr). Fits m.1) (keeps_then Any (λ (m : At Op2 × Expr). Fits m.1) f (λ op any.

@@ -12,7 +12,7 @@ use Rattle.kern_tree.specs.declared.expr.Op2.{Op2}
 use Rattle.kern_tree.specs.declared.expr.Op2.TheVariants as op2s
 use Rattle.kern_tree.specs.declared.expr.Op3.TheVariants as op3s
 use Rattle.kern_tree.specs.declared.stmt.Stmt.{Stmt}
-use Rattle.kern_tree.specs.Grammar.{operator, two, joined, literal, variable, bracketed, call1, call2, call3, to_call, call, prim, post, unary, prod, sum, relation, rel, both, expr_over, expr_within, expr, assignment, block, stmt_over, stmt_within, stmt}
+use Rattle.kern_tree.specs.Grammar.{operator, two, joined_from_left, literal, variable, bracketed, call1, call2, call3, to_call, call, prim, post, unary, prod, sum, relation, rel, both, expr_over, expr_within, expr, assignment, block, stmt_over, stmt_within, stmt}
 use Rattle.kern_tree.specs.Rules.{Rule, At, ◌>>=◌, ◌>>◌, ◌or◌, pure, many, symbol, word, number}
 
 -- what the rule reads, all of the rules read from one of them on
@@ -49,7 +49,7 @@ bounded_many f tokens (value ∷ values) rest h =
     let more = bounded_many f h.0 values rest h.2 in
     (one.0 + more.0, λ m l. (h.0, one.1 m (omega (arith, l)), more.1 m (omega (arith, l))))
 
-bounded_joined : (operators : Rule (At Op2)) {operand : Rule Expr} {operands : ℕ → Rule Expr} → Bounded operand operands → Bounded (joined operators operand) (λ n. joined operators (operands n))
+bounded_joined : (operators : Rule (At Op2)) {operand : Rule Expr} {operands : ℕ → Rule Expr} → Bounded operand operands → Bounded (joined_from_left operators operand) (λ n. joined_from_left operators (operands n))
 bounded_joined operators b =
     bounded_then b (λ first.
     bounded_then (bounded_many (bounded_then (bounded_same operators) (λ op.

@@ -32,8 +32,8 @@ abbrev pub IsShallow : List Token → Type 0
 IsShallow tokens = (n : ℕ) → open_brackets (take n tokens) ≤ MOST_OPEN
 
 -- the end of the last token
-abbrev pub end_of : List Token → ℕ
-end_of tokens = fold (λ _ token. token.end) 0 tokens
+abbrev pub end_of_tokens : List Token → ℕ
+end_of_tokens tokens = fold (λ _ token. token.end) 0 tokens
 
 -- This token stands among the tokens, and those before it can go on to a kernel, but not with it.
 -- The grammar tells by the next token how it goes on, so its reading stops at this very token.
@@ -69,7 +69,7 @@ pub record IsTooManyNodes (tokens : List Token) (token : Token) : Type 0 where
 -- the tokens have this fault, maybe after another
 abbrev pub HasFault : List Token → KernFault → Type 0
 HasFault tokens (faults.Unexpected place) =
-    ((token : Token) × (place ≡ token.place) × StopsAt tokens token) ⊎ ((place ≡ end_of tokens) × RunOut tokens)
+    ((token : Token) × (place ≡ token.place) × StopsAt tokens token) ⊎ ((place ≡ end_of_tokens tokens) × RunOut tokens)
 HasFault tokens (faults.TooDeep place) = (token : Token) × (place ≡ token.place) × IsTooDeep tokens token
 HasFault tokens (faults.TooManyNodes place) = (token : Token) × (place ≡ token.place) × IsTooManyNodes tokens token
 HasFault tokens (faults.BadByte place) = ⊥

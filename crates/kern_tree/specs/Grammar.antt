@@ -94,13 +94,13 @@ decl = field_of words.Epi declared_as.Epi or field_of words.Epj declared_as.Epj 
 abbrev pub node : ℕ → Form → Expr
 node place form = roll-Expr (record { place = place; form = form })
 
-abbrev pub axis_name : Axis → List ℕ
-axis_name axes.X = codes "x"
-axis_name axes.Y = codes "y"
-axis_name axes.Z = codes "z"
+abbrev pub axis_letter : Axis → List ℕ
+axis_letter axes.X = codes "x"
+axis_letter axes.Y = codes "y"
+axis_letter axes.Z = codes "z"
 
 abbrev pub axis : Rule Axis
-axis tokens along rest = (place : ℕ) × token (kinds.Name (axis_name along)) tokens place rest
+axis tokens along rest = (place : ℕ) × token (kinds.Name (axis_letter along)) tokens place rest
 
 -- an operator of these, with its place
 abbrev pub operator : {A : Type 0} → Symbol → A → Rule (At A)
@@ -112,8 +112,8 @@ abbrev pub two : Expr → At Op2 × Expr → Expr
 two left more = node (more.0).place (forms.Two (more.0).held left more.1)
 
 -- operand { operator operand }, grouped from the left
-abbrev pub joined : Rule (At Op2) → Rule Expr → Rule Expr
-joined operators operand = do
+abbrev pub joined_from_left : Rule (At Op2) → Rule Expr → Rule Expr
+joined_from_left operators operand = do
   first ← operand
   more ← many (do
     op ← operators
@@ -226,10 +226,10 @@ module _ (inside : Rule Expr) where
     pure (node op.place (forms.One op.held operand)))
 
   abbrev pub prod : Rule Expr
-  prod = joined (operator symbols.Star op2s.Mul or operator symbols.Slash op2s.Div) unary
+  prod = joined_from_left (operator symbols.Star op2s.Mul or operator symbols.Slash op2s.Div) unary
 
   abbrev pub sum : Rule Expr
-  sum = joined (operator symbols.Plus op2s.Add or operator symbols.Minus op2s.Sub) prod
+  sum = joined_from_left (operator symbols.Plus op2s.Add or operator symbols.Minus op2s.Sub) prod
 
   abbrev pub relation : Rule (At Op2)
   relation =
@@ -246,10 +246,10 @@ module _ (inside : Rule Expr) where
       pure (two left (op, right)))
 
   abbrev pub both : Rule Expr
-  both = joined (operator symbols.And op2s.And) rel
+  both = joined_from_left (operator symbols.And op2s.And) rel
 
   abbrev pub expr_over : Rule Expr
-  expr_over = joined (operator symbols.Or op2s.Or) both
+  expr_over = joined_from_left (operator symbols.Or op2s.Or) both
 
 -- expressions in which brackets stand at most so many deep
 abbrev pub expr_within : ℕ → Rule Expr

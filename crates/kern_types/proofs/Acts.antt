@@ -14,22 +14,22 @@ use denote.Param.Weighed.{most}
 use Rattle.kern_types.specs.declared.fault.TypeFault.{TypeFault}
 use Rattle.kern_types.specs.declared.scope.Scope.{Scope}
 use Rattle.kern_types.specs.NameLists.{common}
-use Rattle.kern_types.specs.Statements.{After, act_after, act_scope, at_stmt_place, act_slots, stmt_slots, if_check, slots_in, slots_in_act, stmt_after, stmts_after}
+use Rattle.kern_types.specs.Statements.{ScopeChange, act_after, act_scope, at_stmt_place, act_slots, stmt_slots, if_check, slots_in, slots_in_act, stmt_after, stmts_after}
 use Rattle.kern_types.specs.Steps.{◌>>=◌, ◌>>◌}
 
 -- ---- the scope after a statement
 
-by_fold : (decls : List Decl) (s : Stmt) → fold-Stmt (ℕ → After) After (act_after decls) at_stmt_place s ≡ stmt_after decls s
-by_fold decls s = fold_out-Stmt (ℕ → After) After (act_after decls) at_stmt_place s
+by_fold : (decls : List Decl) (s : Stmt) → fold-Stmt (ℕ → ScopeChange) ScopeChange (act_after decls) at_stmt_place s ≡ stmt_after decls s
+by_fold decls s = fold_out-Stmt (ℕ → ScopeChange) ScopeChange (act_after decls) at_stmt_place s
 
-all_by_fold : (decls : List Decl) (block : List Stmt) → map (fold-Stmt (ℕ → After) After (act_after decls) at_stmt_place) block ≡ map (stmt_after decls) block
+all_by_fold : (decls : List Decl) (block : List Stmt) → map (fold-Stmt (ℕ → ScopeChange) ScopeChange (act_after decls) at_stmt_place) block ≡ map (stmt_after decls) block
 all_by_fold decls [] = refl
-all_by_fold decls (s ∷ block) = ap (λ x. x ∷ map (fold-Stmt (ℕ → After) After (act_after decls) at_stmt_place) block) (by_fold decls s) ∙ ap (λ x. stmt_after decls s ∷ x) (all_by_fold decls block)
+all_by_fold decls (s ∷ block) = ap (λ x. x ∷ map (fold-Stmt (ℕ → ScopeChange) ScopeChange (act_after decls) at_stmt_place) block) (by_fold decls s) ∙ ap (λ x. stmt_after decls s ∷ x) (all_by_fold decls block)
 
 if_form : (decls : List Decl) (condition : Expr) (block other : List Stmt) → act_scope decls (acts.If condition block other) ≡ act_after decls (layers.If condition (map (stmt_after decls) block) (map (stmt_after decls) other))
 if_form decls condition block other =
-    ap (act_scope decls) (sym (acts.rolls-If condition block other)) ∙ fold-roll-Act (ℕ → After) After (act_after decls) at_stmt_place (layers.If condition block other)
-    ∙ ap (λ x. act_after decls (layers.If condition x (map (fold-Stmt (ℕ → After) After (act_after decls) at_stmt_place) other))) (all_by_fold decls block)
+    ap (act_scope decls) (sym (acts.rolls-If condition block other)) ∙ fold-roll-Act (ℕ → ScopeChange) ScopeChange (act_after decls) at_stmt_place (layers.If condition block other)
+    ∙ ap (λ x. act_after decls (layers.If condition x (map (fold-Stmt (ℕ → ScopeChange) ScopeChange (act_after decls) at_stmt_place) other))) (all_by_fold decls block)
     ∙ ap (λ x. act_after decls (layers.If condition (map (stmt_after decls) block) x)) (all_by_fold decls other)
 
 -- the scope in which the second block begins

@@ -75,16 +75,16 @@ what_declares None = None
 what_declares (Some decl) = Some decl.what
 
 -- the scope after statements in a scope, or their first fault
-abbrev pub After : Type 0
-After = Scope → OrFault Scope
+abbrev pub ScopeChange : Type 0
+ScopeChange = Scope → OrFault Scope
 
-abbrev pub block_after : List After → After
+abbrev pub block_after : List ScopeChange → ScopeChange
 block_after [] scope = Ok scope
 block_after (stmt ∷ stmts) scope = do
   next ← stmt scope
   block_after stmts next
 
-abbrev pub at_stmt_place : Stmt-F (ℕ → After) After → After
+abbrev pub at_stmt_place : Stmt-F (ℕ → ScopeChange) ScopeChange → ScopeChange
 at_stmt_place stmt = stmt.act stmt.place
 
 -- Under these declarations.
@@ -96,7 +96,7 @@ module _ (decls : List Decl) where
     again_check place kind scale (earlier_assignment scope.earlier name)
 
   -- after an assignment of a value of this type
-  abbrev pub set_after : ℕ → List ℕ → ExprType → After
+  abbrev pub set_after : ℕ → List ℕ → ExprType → ScopeChange
   set_after place name Condition scope = Err (faults.Kind place)
   set_after place name (Scaled kind scale) scope = do
     set_check place name kind scale scope
@@ -108,7 +108,7 @@ module _ (decls : List Decl) where
       given_check place (what_declares (declaration decls name)) (earlier_assignment scope.earlier name) type
 
   -- name = value;
-  abbrev pub assignment_after : ℕ → List ℕ → Expr → After
+  abbrev pub assignment_after : ℕ → List ℕ → Expr → ScopeChange
   assignment_after place name value scope = do
     type ← type_of decls scope value
     set_after place name type scope
@@ -126,7 +126,7 @@ module _ (decls : List Decl) where
     condition_check place type
 
   -- The earlier assignments are those of the text; the certain names are those of every path.
-  abbrev pub act_after : Act-F (ℕ → After) After → ℕ → After
+  abbrev pub act_after : Act-F (ℕ → ScopeChange) ScopeChange → ℕ → ScopeChange
   act_after (acts.Set name value) place scope = assignment_after place name value scope
   act_after (acts.Give name value) place scope = do
     contribution_check place name value scope
@@ -137,14 +137,14 @@ module _ (decls : List Decl) where
     second ← block_after other (record { earlier = first.earlier; certain = scope.certain })
     Ok (record { earlier = second.earlier; certain = common first.certain second.certain })
 
-  abbrev pub act_scope : Act → ℕ → After
-  act_scope = fold-Act (ℕ → After) After act_after at_stmt_place
+  abbrev pub act_scope : Act → ℕ → ScopeChange
+  act_scope = fold-Act (ℕ → ScopeChange) ScopeChange act_after at_stmt_place
 
-  abbrev pub stmt_after : Stmt → After
+  abbrev pub stmt_after : Stmt → ScopeChange
   stmt_after stmt = act_scope stmt.act stmt.place
 
   -- the scope after these statements, or their first fault
-  abbrev pub stmts_after : List Stmt → After
+  abbrev pub stmts_after : List Stmt → ScopeChange
   stmts_after stmts = block_after (map stmt_after stmts)
 
 -- ---- contributions

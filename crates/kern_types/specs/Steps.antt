@@ -29,6 +29,6 @@ unless true fault = pass
 unless false fault = Err fault
 
 -- what a call returned, and the value that it left, are this answer, unless memory ran out
-abbrev pub Leaves : {A : Type 0} → Check → A → OrFault A → Type 0
-Leaves result left answer =
+abbrev pub LeavesAnswer : {A : Type 0} → Check → A → OrFault A → Type 0
+LeavesAnswer result left answer =
     MatchResult result (λ _. answer ≡ Ok left) (λ fault. (fault ≡ Memory) ⊎ (answer ≡ Err fault))

@@ -1,6 +1,6 @@
 ghost use Rattle.std.specs.Prelude.{◌≡◌};
 ghost use Rattle.kern_types.specs.Statements as rules;
-ghost use Rattle.kern_types.specs.Steps.{Leaves};
+ghost use Rattle.kern_types.specs.Steps.{LeavesAnswer};
 
 use crate::declarations::declaration;
 use crate::expressions::type_of;
@@ -16,7 +16,7 @@ pub(crate) fn check_block(
     scope: &mut Scope,
     block: &[Stmt],
 ) -> Result<(), TypeFault>
-    ensures { Leaves result scope.new (rules.stmts_after decls.now block.now scope.old) }
+    ensures { LeavesAnswer result scope.new (rules.stmts_after decls.now block.now scope.old) }
 {
     for stmt in block {
         check_act(decls, scope, stmt.place, &stmt.act)?;
@@ -26,7 +26,7 @@ pub(crate) fn check_block(
 
 #[cycle(statements)]
 fn check_act(decls: &[Decl], scope: &mut Scope, place: u32, act: &Act) -> Result<(), TypeFault>
-    ensures { Leaves result scope.new (rules.act_scope decls.now act.now place scope.old) }
+    ensures { LeavesAnswer result scope.new (rules.act_scope decls.now act.now place scope.old) }
 {
     match act {
         Act::Set(name, value) => check_set(decls, scope, place, name, value),
@@ -50,7 +50,7 @@ fn check_set(
     name: &Name,
     value: &Expr,
 ) -> Result<(), TypeFault>
-    ensures { Leaves result scope.new
+    ensures { LeavesAnswer result scope.new
         (rules.assignment_after decls.now place name.now value.now scope.old) }
 {
     let ExprType::Scaled(kind, scale) = type_of(decls, scope, value)? else {

@@ -3,7 +3,13 @@ use Rattle.std.specs.Prelude.{ℕ, List, [], ◌∷◌, pos, replicate}
 use Rattle.pf_model.specs.Particle.{Particle}
 
 abbrev pub resting : ℕ → ℕ → ℕ → Particle
-resting id x mass = record { id = id; at = record { x = x; y = 0; z = 0 }; vel = replicate 3 (pos 0); mass = mass; attr = replicate 8 (pos 0) }
+resting id x mass = record {
+  id = id;
+  at = record { x = x; y = 0; z = 0 };
+  vel = replicate 3 (pos 0);
+  mass = mass;
+  attr = replicate 8 (pos 0);
+}
 
 -- three particles, two of them close together
 abbrev pub two_close_and_one_far : List Particle

@@ -11,7 +11,7 @@ use Rattle.pf_model.specs.Particle.{Particle}
 use Rattle.pf_model.specs.Totals.{Totals, IsTotals}
 use Rattle.pf_model.specs.Sums.{moment_of, together, pairwise_sums}
 use Rattle.pf_model.specs.MomentLaws.{MomentsCancel}
-use Rattle.moments.specs.Prefix.{prefix_moments, KeepsLimits}
+use Rattle.moments.specs.Prefix.{prefix_moments, HasLimitedMoment}
 use Rattle.moments.proofs.MomentLemmas.{moments_join}
 
 -- the first n of the prefix moments
@@ -104,17 +104,17 @@ IsTotals-none = record {
 }
 
 -- a moment of few particles keeps the limits
-pub IsTotals-moment_of : (js : List Particle) → length js ≤ 65536 → All KeepsLimits js → IsTotals (moment_of js)
+pub IsTotals-moment_of : (js : List Particle) → length js ≤ 65536 → All HasLimitedMoment js → IsTotals (moment_of js)
 IsTotals-moment_of [] few limits = IsTotals-none
 IsTotals-moment_of (j ∷ js) few limits =
-    let one = All-head KeepsLimits j js limits in
-    let more = IsTotals-moment_of js (omega arith) (All-tail KeepsLimits j js limits) in
+    let one = All-head HasLimitedMoment j js limits in
+    let more = IsTotals-moment_of js (omega arith) (All-tail HasLimitedMoment j js limits) in
     let counts : (moment_of (j ∷ [])).count + (moment_of js).count ≤ 65536 = rw (count_is (j ∷ []), count_is js) (omega arith) in
     subst IsTotals (sym (moments_join (j ∷ []) js)) (IsTotals-together (moment_of (j ∷ [])) (moment_of js) counts one more)
 
-pub range_limits : (js : List Particle) (i n : ℕ) → length js ≤ 65536 → All KeepsLimits js → IsTotals (moment_of (take n (drop i js)))
+pub range_limits : (js : List Particle) (i n : ℕ) → length js ≤ 65536 → All HasLimitedMoment js → IsTotals (moment_of (take n (drop i js)))
 range_limits js i n few limits =
-    IsTotals-moment_of (take n (drop i js)) (simp (length-take, length-drop) (omega arith)) (All-take KeepsLimits n (drop i js) (All-drop KeepsLimits i js limits))
+    IsTotals-moment_of (take n (drop i js)) (simp (length-take, length-drop) (omega arith)) (All-take HasLimitedMoment n (drop i js) (All-drop HasLimitedMoment i js limits))
 
 -- the moment at a place
 at_prefix : (js : List Particle) (ms : List Totals) (k : ℕ) (d : Totals) → ms ≡ prefix_moments js → k < length ms → get_or ms k d ≡ moment_of (take k js)
@@ -158,9 +158,9 @@ pub first_moments-more : (js : List Particle) (n : ℕ) (ms : List Totals) (m : 
 first_moments-more js n ms m ms_are m_is =
     ap (λ (l : List Totals). l ++ (m ∷ [])) ms_are ∙ ap (λ (t : Totals). first_moments js n ++ (t ∷ [])) m_is ∙ sym (map-range_with_len_more (λ k. moment_of (take k js)) 0 n n (omega arith))
 
-pub limits_more : (js : List Particle) (i : ℕ) (j : Particle) (one : Totals) → i < length js → j ≡ get_or js i j → All KeepsLimits (take i js) → IsTotals one → one ≡ moment_of (j ∷ []) → All KeepsLimits (take (i + 1) js)
+pub limits_more : (js : List Particle) (i : ℕ) (j : Particle) (one : Totals) → i < length js → j ≡ get_or js i j → All HasLimitedMoment (take i js) → IsTotals one → one ≡ moment_of (j ∷ []) → All HasLimitedMoment (take (i + 1) js)
 limits_more js i j one within at_place limits here one_is =
-    All-same KeepsLimits (take (i + 1) js) (take i js ++ (j ∷ [])) (take_one_more js i j within at_place) (All-push KeepsLimits (take i js) j limits (subst IsTotals one_is here))
+    All-same HasLimitedMoment (take (i + 1) js) (take i js ++ (j ∷ [])) (take_one_more js i j within at_place) (All-push HasLimitedMoment (take i js) j limits (subst IsTotals one_is here))
 
 pub count_more : (js : List Particle) (i : ℕ) (j : Particle) (so_far one : Totals) → i < length js → length js ≤ 65536 → so_far ≡ moment_of (take i js) → one ≡ moment_of (j ∷ []) → so_far.count + one.count ≤ 65536
 count_more js i j so_far one within few so_far_is one_is =

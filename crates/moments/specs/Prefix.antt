@@ -11,13 +11,13 @@ abbrev pub prefix_moments : List Particle → List Totals
 prefix_moments js = map (λ k. moment_of (take k js)) (range_with_len 0 (length js + 1))
 
 -- the moment of this one particle keeps the limits
-abbrev pub KeepsLimits : Particle → Type 0
-KeepsLimits j = IsTotals (moment_of (j ∷ []))
+abbrev pub HasLimitedMoment : Particle → Type 0
+HasLimitedMoment j = IsTotals (moment_of (j ∷ []))
 
 -- the prefix moments of few enough particles
 pub record IsPrefixOf (js : List Particle) (ms : List Totals) : Type 0 where
   pub few : length js ≤ MOST_PARTICLES
-  pub limits : All KeepsLimits js
+  pub limits : All HasLimitedMoment js
   pub moments : ms ≡ prefix_moments js
 
 -- prefix moments that a `Prefix` can hold

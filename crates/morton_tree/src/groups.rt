@@ -21,7 +21,8 @@ impl Tree {
         requires some { 1 ≤ limit }
         requires most { limit ≤ MOST_GROUP }
         ensures value { IfOk result (λ groups. groups.items ≡ groups_of limit self.now.built) }
-        ensures in_turn { IfOk result (λ groups. FollowOneAnother 0 (length self.now.built) (map (λ g. g.span) groups.items)) }
+        ensures in_turn { IfOk result (λ groups.
+            FollowOneAnother 0 (length self.now.built) (map (λ g. g.span) groups.items)) }
         ensures each { IfOk result (λ groups. All (IsGroup limit self.now.built) groups.items) }
         ensures few { IfOk result (λ groups. length groups.items ≤ length self.now.built) }
     {

@@ -93,7 +93,8 @@ impl Tree {
     pub fn children(&self, c: Cell) -> [Span; 8]
         requires { c.level < DEEPEST }
         ensures value { result ≡ child_spans c self.now.built }
-        ensures in_turn { let whole = span_of c self.now.built in FollowOneAnother whole.first (whole.first + whole.len) result }
+        ensures in_turn { let whole = span_of c self.now.built in
+            FollowOneAnother whole.first (whole.first + whole.len) result }
     {
         [
             self.child(c, 0),

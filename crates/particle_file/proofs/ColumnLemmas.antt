@@ -4,7 +4,7 @@ use Rattle.std.specs.Prelude.{unsigned_abs}
 use Rattle.std.proofs.lemmas.Int.{ints}
 use Rattle.std.proofs.lemmas.List.Elements.{All-from_recursion}
 use Rattle.std.specs.Int.Signed.{le_z_yes}
-use Rattle.pf_model.specs.Particle.{IsVelocity, IsAttribute, IsWithinLimits}
+use Rattle.pf_model.specs.Particle.{IsVelocity, IsAttribute, HasParticleLimits}
 use Rattle.particle_file.specs.Columns.{columns, id_limits, AreWithin, number_at, particle_of}
 use Rattle.particle_file.specs.declared.columns.Limits.{Limits}
 
@@ -25,7 +25,7 @@ attribute : (a : ℤ) → (neg_ℤ (pos (2 ^ 40)) ≤ℤ a) × (a ≤ℤ pos (2 
 attribute a h = omega (arith, ints)
 
 -- so the particle keeps its limits
-pub particle_of-limits : (ns : List ℤ) → AreWithin columns ns → IsWithinLimits (particle_of ns).vel (particle_of ns).mass (particle_of ns).attr
+pub particle_of-limits : (ns : List ℤ) → AreWithin columns ns → HasParticleLimits (particle_of ns).vel (particle_of ns).mass (particle_of ns).attr
 unfolding particle_of
 particle_of-limits ns within =
     let mass = column_within ns 7 within (omega arith) in

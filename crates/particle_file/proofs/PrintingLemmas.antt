@@ -17,7 +17,7 @@ use Rattle.pf_model.specs.Particles.{AreBodies}
 use Rattle.text_lines.specs.Laws.{IntegersReadBack, DigitsReadBack, WrittenLinesReadBack}
 use Rattle.text_lines.specs.Written.{IsFieldByte, IsField, IsWritable, written_line, numbered_from}
 use Rattle.particle_file.specs.Columns.{columns, AreWithin, numbers}
-use Rattle.particle_file.specs.Printing.{fields_of, lines_of, particles_text}
+use Rattle.particle_file.specs.Printing.{number_fields, lines_of, particles_text}
 use Rattle.particle_file.specs.Spelling.{IsPlain, SpellNumbers, SpellParticles, SpellsText}
 use Rattle.particle_file.specs.declared.columns.Limits.{Limits}
 use Rattle.particle_file.proofs.NumberLemmas.{three_out, numbers-within}
@@ -58,14 +58,14 @@ first_digit n fits = λ e.
     let range = digit_at (decimal n) 0 numeral.1 numeral.0 in
     omega arith
 
-particle_writable : (p : Particle) → IntegersReadBack → IsParticle p → IsPlain p → IsWritable (fields_of p)
+particle_writable : (p : Particle) → IntegersReadBack → IsParticle p → IsPlain p → IsWritable (number_fields p)
 particle_writable p back good plain = record {
   some = omega arith;
   each = decimals_are_fields (numbers p) back (numbers_small p good plain);
   no_comment = λ first more e. let named = good.named in let same : decimal p.id ≡ first = cc in subst (λ f. get_or f 0 0 ≢ 35) same (first_digit p.id (omega arith));
 }
 
-particles_writable : (ps : List Particle) → IntegersReadBack → AllByRecursion IsParticle ps → AllByRecursion IsPlain ps → AllByRecursion IsWritable (map fields_of ps)
+particles_writable : (ps : List Particle) → IntegersReadBack → AllByRecursion IsParticle ps → AllByRecursion IsPlain ps → AllByRecursion IsWritable (map number_fields ps)
 particles_writable [] back good plain = tt
 particles_writable (p ∷ ps) back good plain = (particle_writable p back good.0 plain.0, particles_writable ps back good.1 plain.1)
 
@@ -91,7 +91,7 @@ count_writable n fits back = record {
   no_comment = λ first more e. let same : codes "count" ≡ first = cc in subst (λ f. get_or f 0 0 ≢ 35) same (λ h. omega arith);
 }
 
-lines_spell : (number : ℕ) (ps : List Particle) → IntegersReadBack → AllByRecursion IsParticle ps → AllByRecursion IsPlain ps → SpellParticles (numbered_from number (map fields_of ps)) ps
+lines_spell : (number : ℕ) (ps : List Particle) → IntegersReadBack → AllByRecursion IsParticle ps → AllByRecursion IsPlain ps → SpellParticles (numbered_from number (map number_fields ps)) ps
 lines_spell number [] back good plain = tt
 lines_spell number (p ∷ ps) back good plain =
     (record { particle = good.0; plain = plain.0; numbers = decimals_spell (numbers p) back (numbers_small p good.0 plain.0) }, lines_spell (suc number) ps back good.1 plain.1)
@@ -105,7 +105,7 @@ printed_spells ps lines digits integers bodies good plain =
     record {
       header = record { number = 1; fields = codes "particles" ∷ codes "1" ∷ [] };
       count = record { number = 2; fields = codes "count" ∷ decimal (length ps) ∷ [] };
-      lines = numbered_from 3 (map fields_of ps);
+      lines = numbered_from 3 (map number_fields ps);
       lines_are = lines (lines_of ps) (header_writable, (count_writable (length ps) fits digits, particles_writable ps integers good plain));
       is_header = refl;
       is_count = record { field = decimal (length ps); fields_are = refl; digits = back.1; value = back.2 };
@@ -130,16 +130,16 @@ spaced-more ns i inside =
     ∙ ap (λ t. flat_map (λ n. 32 ∷ signed_decimal n) (take i ns) ++ t) (append-nil (32 ∷ signed_decimal (get_or ns i (pos 0))))
 
 -- one particle's line more
-pub lines-more : (ps : List Particle) (i : ℕ) (d : Particle) → i < length ps → flat_map (λ p. written_line (fields_of p)) (take (i + 1) ps) ≡ flat_map (λ p. written_line (fields_of p)) (take i ps) ++ written_line (fields_of (get_or ps i d))
+pub lines-more : (ps : List Particle) (i : ℕ) (d : Particle) → i < length ps → flat_map (λ p. written_line (number_fields p)) (take (i + 1) ps) ≡ flat_map (λ p. written_line (number_fields p)) (take i ps) ++ written_line (number_fields (get_or ps i d))
 lines-more ps i d inside =
-    ap (flat_map (λ p. written_line (fields_of p))) (take_more ps i d inside)
-    ∙ flat_map-append (λ p. written_line (fields_of p)) (take i ps) (get_or ps i d ∷ [])
-    ∙ ap (λ t. flat_map (λ p. written_line (fields_of p)) (take i ps) ++ t) (append-nil (written_line (fields_of (get_or ps i d))))
+    ap (flat_map (λ p. written_line (number_fields p))) (take_more ps i d inside)
+    ∙ flat_map-append (λ p. written_line (number_fields p)) (take i ps) (get_or ps i d ∷ [])
+    ∙ ap (λ t. flat_map (λ p. written_line (number_fields p)) (take i ps) ++ t) (append-nil (written_line (number_fields (get_or ps i d))))
 
 -- the whole text, as it is written
-pub particles_text-is : (ps : List Particle) → ((codes "particles 1\ncount " ++ decimal (length ps)) ++ 10 ∷ []) ++ flat_map (λ p. written_line (fields_of p)) ps ≡ particles_text ps
+pub particles_text-is : (ps : List Particle) → ((codes "particles 1\ncount " ++ decimal (length ps)) ++ 10 ∷ []) ++ flat_map (λ p. written_line (number_fields p)) ps ≡ particles_text ps
 particles_text-is ps =
-    ap (λ t. ((codes "particles 1\ncount " ++ decimal (length ps)) ++ 10 ∷ []) ++ t) (sym (flat_map-map written_line fields_of ps))
+    ap (λ t. ((codes "particles 1\ncount " ++ decimal (length ps)) ++ 10 ∷ []) ++ t) (sym (flat_map-map written_line number_fields ps))
 
 pub others-are : (x y z mass : ℤ) (vel attr : List ℤ) → length vel ≡ 3 → length attr ≡ 8
     → x ∷ y ∷ z ∷ get_or vel 0 (pos 0) ∷ get_or vel 1 (pos 0) ∷ get_or vel 2 (pos 0) ∷ mass ∷ get_or attr 0 (pos 0) ∷ get_or attr 1 (pos 0) ∷ get_or attr 2 (pos 0) ∷ get_or attr 3 (pos 0) ∷ []

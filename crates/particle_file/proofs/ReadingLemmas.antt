@@ -9,7 +9,7 @@ use Rattle.pf_model.specs.Particle.{Particle}
 use Rattle.text_lines.specs.Lines.{FieldLine}
 use Rattle.text_lines.specs.Numbers.{integer_in}
 use Rattle.particle_file.specs.Columns.{columns, AreWithin, particle_of}
-use Rattle.particle_file.specs.Reading.{◌>>=◌, number_or, with_first, numbers_in, particles_in}
+use Rattle.particle_file.specs.Reading.{◌>>=◌, number_or, with_first, numbers_in, particles_read}
 use Rattle.particle_file.specs.declared.columns.Limits.{Limits}
 use Rattle.particle_file.specs.declared.fault.PartFault.{PartFault}
 use Rattle.particle_file.specs.declared.fault.PartFault.TheVariants as faults
@@ -89,33 +89,33 @@ one_more_due due counter left = omega arith
 -- one particle more
 pub one_particle_more : (count due counter : ℕ) (before : List Particle) (ahead rest : List FieldLine) (line : FieldLine) (ns : List ℤ) → counter < due
     → ahead ≡ line ∷ rest → Ok ns ≡ numbers_in line.number 1 columns line.fields → list_any (λ p. eqb p.id (particle_of ns).id) before ≡ false
-    → particles_in count (due - counter) before ahead ≡ particles_in count (due - (counter + 1)) (before ++ particle_of ns ∷ []) rest
+    → particles_read count (due - counter) before ahead ≡ particles_read count (due - (counter + 1)) (before ++ particle_of ns ∷ []) rest
 one_particle_more count due counter before ahead rest line ns left is read fresh =
-    ap (λ d. particles_in count d before ahead) (one_more_due due counter left)
-    ∙ ap (particles_in count (suc (due - (counter + 1))) before) is
-    ∙ ap (λ (r : Result (List ℤ) PartFault). (r >>= λ ns. cond (list_any (λ p. eqb p.id (particle_of ns).id) before) (Err (faults.DuplicateId line.number)) (Ok (particle_of ns))) >>= λ p. particles_in count (due - (counter + 1)) (before ++ p ∷ []) rest) (sym read)
-    ∙ ap (λ b. cond b (Err (faults.DuplicateId line.number)) (Ok (particle_of ns)) >>= λ p. particles_in count (due - (counter + 1)) (before ++ p ∷ []) rest) fresh
+    ap (λ d. particles_read count d before ahead) (one_more_due due counter left)
+    ∙ ap (particles_read count (suc (due - (counter + 1))) before) is
+    ∙ ap (λ (r : Result (List ℤ) PartFault). (r >>= λ ns. cond (list_any (λ p. eqb p.id (particle_of ns).id) before) (Err (faults.DuplicateId line.number)) (Ok (particle_of ns))) >>= λ p. particles_read count (due - (counter + 1)) (before ++ p ∷ []) rest) (sym read)
+    ∙ ap (λ b. cond b (Err (faults.DuplicateId line.number)) (Ok (particle_of ns)) >>= λ p. particles_read count (due - (counter + 1)) (before ++ p ∷ []) rest) fresh
 
 pub line_fault : (count due counter : ℕ) (before : List Particle) (ahead rest : List FieldLine) (line : FieldLine) (fault : PartFault) → counter < due
     → ahead ≡ line ∷ rest → Err fault ≡ numbers_in line.number 1 columns line.fields
-    → particles_in count (due - counter) before ahead ≡ Err fault
+    → particles_read count (due - counter) before ahead ≡ Err fault
 line_fault count due counter before ahead rest line fault left is read =
-    ap (λ d. particles_in count d before ahead) (one_more_due due counter left)
-    ∙ ap (particles_in count (suc (due - (counter + 1))) before) is
-    ∙ ap (λ (r : Result (List ℤ) PartFault). (r >>= λ ns. cond (list_any (λ p. eqb p.id (particle_of ns).id) before) (Err (faults.DuplicateId line.number)) (Ok (particle_of ns))) >>= λ p. particles_in count (due - (counter + 1)) (before ++ p ∷ []) rest) (sym read)
+    ap (λ d. particles_read count d before ahead) (one_more_due due counter left)
+    ∙ ap (particles_read count (suc (due - (counter + 1))) before) is
+    ∙ ap (λ (r : Result (List ℤ) PartFault). (r >>= λ ns. cond (list_any (λ p. eqb p.id (particle_of ns).id) before) (Err (faults.DuplicateId line.number)) (Ok (particle_of ns))) >>= λ p. particles_read count (due - (counter + 1)) (before ++ p ∷ []) rest) (sym read)
 
 pub duplicate_id : (count due counter : ℕ) (before : List Particle) (ahead rest : List FieldLine) (line : FieldLine) (ns : List ℤ) → counter < due
     → ahead ≡ line ∷ rest → Ok ns ≡ numbers_in line.number 1 columns line.fields → list_any (λ p. eqb p.id (particle_of ns).id) before ≡ true
-    → particles_in count (due - counter) before ahead ≡ Err (faults.DuplicateId line.number)
+    → particles_read count (due - counter) before ahead ≡ Err (faults.DuplicateId line.number)
 duplicate_id count due counter before ahead rest line ns left is read taken =
-    ap (λ d. particles_in count d before ahead) (one_more_due due counter left)
-    ∙ ap (particles_in count (suc (due - (counter + 1))) before) is
-    ∙ ap (λ (r : Result (List ℤ) PartFault). (r >>= λ ns. cond (list_any (λ p. eqb p.id (particle_of ns).id) before) (Err (faults.DuplicateId line.number)) (Ok (particle_of ns))) >>= λ p. particles_in count (due - (counter + 1)) (before ++ p ∷ []) rest) (sym read)
-    ∙ ap (λ b. cond b (Err (faults.DuplicateId line.number)) (Ok (particle_of ns)) >>= λ p. particles_in count (due - (counter + 1)) (before ++ p ∷ []) rest) taken
+    ap (λ d. particles_read count d before ahead) (one_more_due due counter left)
+    ∙ ap (particles_read count (suc (due - (counter + 1))) before) is
+    ∙ ap (λ (r : Result (List ℤ) PartFault). (r >>= λ ns. cond (list_any (λ p. eqb p.id (particle_of ns).id) before) (Err (faults.DuplicateId line.number)) (Ok (particle_of ns))) >>= λ p. particles_read count (due - (counter + 1)) (before ++ p ∷ []) rest) (sym read)
+    ∙ ap (λ b. cond b (Err (faults.DuplicateId line.number)) (Ok (particle_of ns)) >>= λ p. particles_read count (due - (counter + 1)) (before ++ p ∷ []) rest) taken
 
 pub no_line_left : (count due counter : ℕ) (before : List Particle) (ahead : List FieldLine) → counter < due → ahead ≡ []
-    → particles_in count (due - counter) before ahead ≡ Err (faults.Short (count + 1))
+    → particles_read count (due - counter) before ahead ≡ Err (faults.Short (count + 1))
 no_line_left count due counter before ahead left none =
-    ap (λ d. particles_in count d before ahead) (one_more_due due counter left)
-    ∙ ap (particles_in count (suc (due - (counter + 1))) before) none
+    ap (λ d. particles_read count d before ahead) (one_more_due due counter left)
+    ∙ ap (particles_read count (suc (due - (counter + 1))) before) none
     ∙ ap (λ n. Err (faults.Short n)) (sym (add-one count))

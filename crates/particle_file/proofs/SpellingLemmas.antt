@@ -15,7 +15,7 @@ use Rattle.text_lines.specs.Numbers.{digits_in, integer_in}
 use Rattle.text_lines.specs.declared.number.NumberFault.{NumberFault}
 use Rattle.text_lines.specs.declared.number.NumberFault.TheVariants.{NoNumber, OutOfRange}
 use Rattle.particle_file.specs.Columns.{columns, AreWithin, numbers, particle_of}
-use Rattle.particle_file.specs.Reading.{◌>>=◌, number_or, with_first, numbers_in, particle_in, particles_in, two_of, is_header, count_in, counted_in, reading_of, reading}
+use Rattle.particle_file.specs.Reading.{◌>>=◌, number_or, with_first, numbers_in, particle_in, particles_read, two_of, is_header, count_in, counted_in, reading_of, reading}
 use Rattle.particle_file.specs.Spelling.{IsPlain, SpellNumbers, SpellsParticle, SpellParticles, IsHeader, IsCount, SpellsText}
 use Rattle.particle_file.specs.declared.columns.Limits.{Limits}
 use Rattle.particle_file.specs.declared.fault.PartFault.{PartFault}
@@ -86,14 +86,14 @@ record ReadsAfter (due : ℕ) (before : List Particle) (ls : List FieldLine) (al
   each : SpellParticles ls ps
   distinct : HaveDistinctIds before → HaveDistinctIds all
 
-particles_in-spelled : (count due : ℕ) (before : List Particle) (ls : List FieldLine) (all : List Particle) → IntegersAreFound → particles_in count due before ls ≡ Ok all → ReadsAfter due before ls all
+particles_in-spelled : (count due : ℕ) (before : List Particle) (ls : List FieldLine) (all : List Particle) → IntegersAreFound → particles_read count due before ls ≡ Ok all → ReadsAfter due before ls all
 particles_in-spelled count zero before [] all found read =
     let same : before ≡ all = cc in
     record { ps = []; joined = sym same ∙ sym (append-nil before); many = refl; each = tt; distinct = subst HaveDistinctIds same }
 particles_in-spelled count zero before (line ∷ ls) all found read = cc
 particles_in-spelled count (suc due) before [] all found read = cc
 particles_in-spelled count (suc due) before (line ∷ ls) all found read =
-    let first = bind-ok (particle_in before line) (λ p. particles_in count due (before ++ p ∷ []) ls) all read in
+    let first = bind-ok (particle_in before line) (λ p. particles_read count due (before ++ p ∷ []) ls) all read in
     let p = first.0 in
     let is = particle_in-spelled before line first.0 found first.1 in
     let rest = particles_in-spelled count due (before ++ first.0 ∷ []) ls all found first.2 in
@@ -105,12 +105,12 @@ particles_in-spelled count (suc due) before (line ∷ ls) all found read =
       distinct = λ apart. rest.distinct (distinct-push before first.0 apart is.1);
     }
 
-particles_in-read : (count : ℕ) (before ps : List Particle) (ls : List FieldLine) → IntegersAreFound → SpellParticles ls ps → HaveDistinctIds (before ++ ps) → particles_in count (length ps) before ls ≡ Ok (before ++ ps)
+particles_in-read : (count : ℕ) (before ps : List Particle) (ls : List FieldLine) → IntegersAreFound → SpellParticles ls ps → HaveDistinctIds (before ++ ps) → particles_read count (length ps) before ls ≡ Ok (before ++ ps)
 particles_in-read count before [] [] found each distinct = ap Ok (sym (append-nil before))
 particles_in-read count before [] (line ∷ ls) found each distinct = absurd each
 particles_in-read count before (p ∷ ps) [] found each distinct = absurd each
 particles_in-read count before (p ∷ ps) (line ∷ ls) found each distinct =
-    ap (λ r. r >>= λ q. particles_in count (length ps) (before ++ q ∷ []) ls) (particle_in-read before line p found each.0 (fresh_id before p ps distinct))
+    ap (λ r. r >>= λ q. particles_read count (length ps) (before ++ q ∷ []) ls) (particle_in-read before line p found each.0 (fresh_id before p ps distinct))
     ∙ particles_in-read count (before ++ p ∷ []) ps ls found each.1 (subst HaveDistinctIds (sym (append_assoc before (p ∷ []) ps)) distinct)
     ∙ ap Ok (append_assoc before (p ∷ []) ps)
 
@@ -148,7 +148,7 @@ count_spelled line due found read =
 counted_spelled : (text : List ℕ) (count : ℕ) (header : FieldLine) (ls : List FieldLine) (ps : List Particle) → IntegersAreFound → DigitsAreFound → field_lines text ≡ header ∷ ls → IsHeader header → counted_in count ls ≡ Ok ps → SpellsText text ps
 counted_spelled text count header [] ps integers digits are good read = cc
 counted_spelled text count header (line ∷ ls) ps integers digits are good read =
-    let due = bind-ok (count_in line.fields) (λ due. particles_in count due [] ls) ps read in
+    let due = bind-ok (count_in line.fields) (λ due. particles_read count due [] ls) ps read in
     let is = count_spelled line due.0 digits due.1 in
     let rest = particles_in-spelled count due.0 [] ls ps integers due.2 in
     let many : length ps ≡ due.0 = ap length rest.joined ∙ rest.many in
@@ -188,7 +188,7 @@ unfolding reading
 what_is_spelled_is_read text ps integers digits is =
     ap (reading_of (length (lines text))) is.lines_are
     ∙ ap (λ b. cond b (counted_in (length (lines text)) (is.count ∷ is.lines)) (Err faults.Header)) (header_read is.header is.is_header)
-    ∙ ap (λ r. r >>= λ due. particles_in (length (lines text)) due [] is.lines) (count_read is.count (length ps) digits is.is_count is.bodies.few)
+    ∙ ap (λ r. r >>= λ due. particles_read (length (lines text)) due [] is.lines) (count_read is.count (length ps) digits is.is_count is.bodies.few)
     ∙ particles_in-read (length (lines text)) [] ps is.lines integers is.each is.bodies.distinct
 
 each_plain : (ls : List FieldLine) (ps : List Particle) → SpellParticles ls ps → AllByRecursion IsParticle ps × AllByRecursion IsPlain ps

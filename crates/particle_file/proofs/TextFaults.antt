@@ -11,8 +11,8 @@ use Rattle.pf_model.specs.Particles.{HaveDistinctIds}
 use Rattle.text_lines.specs.Laws.{IntegersAreFound, DigitsAreFound}
 use Rattle.text_lines.specs.Lines.{FieldLine, lines, field_lines}
 use Rattle.text_lines.specs.Numbers.{is_digits, digits_in}
-use Rattle.particle_file.specs.FirstFault.{IsLineFault, SpellsFront, StopsInLine, HasHeader, HasCount, HasFirstFault}
-use Rattle.particle_file.specs.Reading.{◌>>=◌, number_or, particle_in, particles_in, is_header, count_in, counted_in, reading_of, reading}
+use Rattle.particle_file.specs.FirstFault.{IsLineFault, SpellsFront, StopsInLine, HasHeader, HasCount, HasFirstParticleFault}
+use Rattle.particle_file.specs.Reading.{◌>>=◌, number_or, particle_in, particles_read, is_header, count_in, counted_in, reading_of, reading}
 use Rattle.particle_file.specs.Spelling.{SpellParticles, IsHeader, IsCount}
 use Rattle.particle_file.specs.declared.fault.PartFault.{PartFault}
 use Rattle.particle_file.specs.declared.fault.PartFault.TheVariants as faults
@@ -46,7 +46,7 @@ stops_later count due ps qs many rest fault same (early less none is) = early (o
 stops_later count due ps qs many rest fault same (after line more all next is) = after line more (ap suc all) next is
 stops_later count due ps qs many rest fault same (in_line line more less next is) = in_line line more (omega arith) next (subst (λ rs. IsLineFault rs line fault) same is)
 
-stops_found : (count due : ℕ) (before : List Particle) (ls : List FieldLine) (fault : PartFault) → IntegersAreFound → particles_in count due before ls ≡ Err fault → StopsAfter count due before ls fault
+stops_found : (count due : ℕ) (before : List Particle) (ls : List FieldLine) (fault : PartFault) → IntegersAreFound → particles_read count due before ls ≡ Err fault → StopsAfter count due before ls fault
 stops_found count zero before [] fault found read = cc
 stops_found count zero before (line ∷ ls) fault found read =
     stops_here count zero before (line ∷ ls) fault (after line ls refl refl (let same : fault ≡ faults.Trailing line.number = cc in same))
@@ -54,7 +54,7 @@ stops_found count (suc due) before [] fault found read =
     let same : fault ≡ faults.Short (suc count) = cc in
     stops_here count (suc due) before [] fault (early (omega arith) refl (same ∙ ap faults.Short (sym (add-one count))))
 stops_found count (suc due) before (line ∷ ls) fault found read = go (λ p e. stops_found count due (before ++ p ∷ []) ls fault found e) (particle_in before line) refl read where
-  go : ((p : Particle) → particles_in count due (before ++ p ∷ []) ls ≡ Err fault → StopsAfter count due (before ++ p ∷ []) ls fault) → (r : Result Particle PartFault) → particle_in before line ≡ r → (r >>= λ p. particles_in count due (before ++ p ∷ []) ls) ≡ Err fault → StopsAfter count (suc due) before (line ∷ ls) fault
+  go : ((p : Particle) → particles_read count due (before ++ p ∷ []) ls ≡ Err fault → StopsAfter count due (before ++ p ∷ []) ls fault) → (r : Result Particle PartFault) → particle_in before line ≡ r → (r >>= λ p. particles_read count due (before ++ p ∷ []) ls) ≡ Err fault → StopsAfter count (suc due) before (line ∷ ls) fault
   go later_lines (Err other) is e =
       let same : other ≡ fault = cc in
       stops_here count (suc due) before (line ∷ ls) fault (in_line line ls (omega arith) refl (line_fault_found before line fault found (is ∙ ap Err same)))
@@ -73,18 +73,18 @@ stops_found count (suc due) before (line ∷ ls) fault found read = go (λ p e. 
       }
 
 -- after lines that spell particles the reading goes on with the other lines
-particles_in-front : (count due : ℕ) (before ps : List Particle) (front rest : List FieldLine) → IntegersAreFound → SpellParticles front ps → HaveDistinctIds (before ++ ps) → particles_in count (length ps + due) before (front ++ rest) ≡ particles_in count due (before ++ ps) rest
+particles_in-front : (count due : ℕ) (before ps : List Particle) (front rest : List FieldLine) → IntegersAreFound → SpellParticles front ps → HaveDistinctIds (before ++ ps) → particles_read count (length ps + due) before (front ++ rest) ≡ particles_read count due (before ++ ps) rest
 particles_in-front count due before [] [] rest found each distinct =
     let none : 0 + due ≡ due = omega arith in
-    ap (λ d. particles_in count d before rest) none ∙ ap (λ qs. particles_in count due qs rest) (sym (append-nil before))
+    ap (λ d. particles_read count d before rest) none ∙ ap (λ qs. particles_read count due qs rest) (sym (append-nil before))
 particles_in-front count due before [] (line ∷ front) rest found each distinct = absurd each
 particles_in-front count due before (p ∷ ps) [] rest found each distinct = absurd each
 particles_in-front count due before (p ∷ ps) (line ∷ front) rest found each distinct =
     let one : suc (length ps) + due ≡ suc (length ps + due) = omega arith in
-    ap (λ d. particles_in count d before (line ∷ (front ++ rest))) one
-    ∙ ap (λ r. r >>= λ q. particles_in count (length ps + due) (before ++ q ∷ []) (front ++ rest)) (particle_in-read before line p found each.0 (fresh_id before p ps distinct))
+    ap (λ d. particles_read count d before (line ∷ (front ++ rest))) one
+    ∙ ap (λ r. r >>= λ q. particles_read count (length ps + due) (before ++ q ∷ []) (front ++ rest)) (particle_in-read before line p found each.0 (fresh_id before p ps distinct))
     ∙ particles_in-front count due (before ++ p ∷ []) ps front rest found each.1 (subst HaveDistinctIds (sym (append_assoc before (p ∷ []) ps)) distinct)
-    ∙ ap (λ qs. particles_in count due qs rest) (append_assoc before (p ∷ []) ps)
+    ∙ ap (λ qs. particles_read count due qs rest) (append_assoc before (p ∷ []) ps)
 
 -- what the second line is: no count, or one within the limit or past it
 data CountOutcome (line : FieldLine) : Type 0 where
@@ -144,7 +144,7 @@ no_bind (Err x) next e f is bound = let a : x ≡ e = cc in let b : x ≡ f = cc
 
 -- a fault after the count
 particles_fault : (text : List ℕ) (header line : FieldLine) (ls : List FieldLine) (due : ℕ) (fault : PartFault) → IntegersAreFound → field_lines text ≡ header ∷ line ∷ ls → IsHeader header → IsCount line due → due ≤ MOST_PARTICLES
-    → particles_in (length (lines text)) due [] ls ≡ Err fault → HasFirstFault text fault
+    → particles_read (length (lines text)) due [] ls ≡ Err fault → HasFirstParticleFault text fault
 particles_fault text header line ls due fault integers are good is few read =
     let stops = stops_found (length (lines text)) due [] ls fault integers read in
     go stops.ps stops.front stops.rest stops.joined stops.each (stops.distinct no_ids) stops.why where
@@ -161,62 +161,62 @@ particles_fault text header line ls due fault integers are good is few read =
         distinct = distinct;
       }
 
-      go : (ps : List Particle) (front rest : List FieldLine) → ls ≡ front ++ rest → SpellParticles front ps → HaveDistinctIds ps → StopsFor (length (lines text)) due ps (length ps) rest fault → HasFirstFault text fault
+      go : (ps : List Particle) (front rest : List FieldLine) → ls ≡ front ++ rest → SpellParticles front ps → HaveDistinctIds ps → StopsFor (length (lines text)) due ps (length ps) rest fault → HasFirstParticleFault text fault
       go ps front rest joined each distinct (early less none same) =
-          subst (HasFirstFault text) (sym same) (refl, record { due = due; ps = ps; front = spells ps front rest [] joined each distinct none; more_due = less })
+          subst (HasFirstParticleFault text) (sym same) (refl, record { due = due; ps = ps; front = spells ps front rest [] joined each distinct none; more_due = less })
       go ps front rest joined each distinct (after l more all next same) =
-          subst (HasFirstFault text) (sym same)
+          subst (HasFirstParticleFault text) (sym same)
           (record { ps = ps; line = l; rest = more; front = subst (λ d. SpellsFront text d ps (l ∷ more)) (sym all) (spells ps front rest (l ∷ more) joined each distinct next); number_is = refl })
       go ps front rest joined each distinct (in_line l more less next (inl column)) =
           let stops : StopsInLine text fault = record { due = due; ps = ps; line = l; rest = more; front = spells ps front rest (l ∷ more) joined each distinct next; more_due = less; in_line = inl column } in
-          ⊎_elim (λ wrong. subst (HasFirstFault text) (sym wrong.0) (subst (StopsInLine text) wrong.0 stops)) (λ past. subst (HasFirstFault text) (sym past.0) (subst (StopsInLine text) past.0 stops)) column.1.fault_is
+          ⊎_elim (λ wrong. subst (HasFirstParticleFault text) (sym wrong.0) (subst (StopsInLine text) wrong.0 stops)) (λ past. subst (HasFirstParticleFault text) (sym past.0) (subst (StopsInLine text) past.0 stops)) column.1.fault_is
       go ps front rest joined each distinct (in_line l more less next (inr again)) =
           let stops : StopsInLine text fault = record { due = due; ps = ps; line = l; rest = more; front = spells ps front rest (l ∷ more) joined each distinct next; more_due = less; in_line = inr again } in
-          subst (HasFirstFault text) (sym again.0) (subst (StopsInLine text) again.0 stops)
+          subst (HasFirstParticleFault text) (sym again.0) (subst (StopsInLine text) again.0 stops)
 
 count_fault : (text : List ℕ) (header line : FieldLine) (ls : List FieldLine) (fault : PartFault) → IntegersAreFound → field_lines text ≡ header ∷ line ∷ ls → IsHeader header → CountOutcome line
-    → (count_in line.fields >>= λ due. particles_in (length (lines text)) due [] ls) ≡ Err fault → HasFirstFault text fault
+    → (count_in line.fields >>= λ due. particles_read (length (lines text)) due [] ls) ≡ Err fault → HasFirstParticleFault text fault
 count_fault text header line ls fault integers are good (no_count stops none) read =
-    let same : faults.Count ≡ fault = no_bind (count_in line.fields) (λ due. particles_in (length (lines text)) due [] ls) faults.Count fault stops read in
-    subst (HasFirstFault text) same
+    let same : faults.Count ≡ fault = no_bind (count_in line.fields) (λ due. particles_read (length (lines text)) due [] ls) faults.Count fault stops read in
+    subst (HasFirstParticleFault text) same
     (line ∷ ls, record { header = header; lines_are = are; is_header = good }, λ n has. let e = has.lines_are in let l : has.count ≡ line = cc in none n (subst (λ c. IsCount c n) l has.is_count))
 count_fault text header line ls fault integers are good (is_few n is small reads) read =
-    particles_fault text header line ls n fault integers are good is small (ap (λ r. r >>= λ due. particles_in (length (lines text)) due [] ls) (sym reads) ∙ read)
+    particles_fault text header line ls n fault integers are good is small (ap (λ r. r >>= λ due. particles_read (length (lines text)) due [] ls) (sym reads) ∙ read)
 count_fault text header line ls fault integers are good (too_many n is large stops) read =
-    let same : faults.TooMany ≡ fault = no_bind (count_in line.fields) (λ due. particles_in (length (lines text)) due [] ls) faults.TooMany fault stops read in
-    subst (HasFirstFault text) same
+    let same : faults.TooMany ≡ fault = no_bind (count_in line.fields) (λ due. particles_read (length (lines text)) due [] ls) faults.TooMany fault stops read in
+    subst (HasFirstParticleFault text) same
     (line ∷ ls, n, record { header = header; lines_are = are; is_header = good }, record { count = line; more = ls; lines_are = refl; is_count = is }, large)
 
-lines_fault : (text : List ℕ) (ls : List FieldLine) (fault : PartFault) → IntegersAreFound → field_lines text ≡ ls → reading_of (length (lines text)) ls ≡ Err fault → HasFirstFault text fault
+lines_fault : (text : List ℕ) (ls : List FieldLine) (fault : PartFault) → IntegersAreFound → field_lines text ≡ ls → reading_of (length (lines text)) ls ≡ Err fault → HasFirstParticleFault text fault
 lines_fault text [] fault integers are read =
     let same : faults.Header ≡ fault = cc in
-    subst (HasFirstFault text) same (λ rest has. let e = sym has.lines_are ∙ are in cc)
+    subst (HasFirstParticleFault text) same (λ rest has. let e = sym has.lines_are ∙ are in cc)
 lines_fault text (header ∷ ls) fault integers are read =
     ⊎_elim
     (λ (good : is_header header.fields ≡ true). after_header ls are (header_spelled header good) (rw good at read))
     (λ (bad : is_header header.fields ≡ false).
     let stops : ◌≡◌ {A = Result (List Particle) PartFault} (Err faults.Header) (Err fault) = rw bad at read in
     let same : faults.Header ≡ fault = cc in
-    subst (HasFirstFault text) same (λ rest has. let is = same_header text header ls rest has are in let both = sym bad ∙ header_read header is.0 in cc))
+    subst (HasFirstParticleFault text) same (λ rest has. let is = same_header text header ls rest has are in let both = sym bad ∙ header_read header is.0 in cc))
     (cases_Bool (is_header header.fields)) where
-      after_header : (ms : List FieldLine) → field_lines text ≡ header ∷ ms → IsHeader header → counted_in (length (lines text)) ms ≡ Err fault → HasFirstFault text fault
+      after_header : (ms : List FieldLine) → field_lines text ≡ header ∷ ms → IsHeader header → counted_in (length (lines text)) ms ≡ Err fault → HasFirstParticleFault text fault
       after_header [] are good read =
           let same : faults.Count ≡ fault = cc in
-          subst (HasFirstFault text) same ([], record { header = header; lines_are = are; is_header = good }, λ n has. let e = has.lines_are in cc)
+          subst (HasFirstParticleFault text) same ([], record { header = header; lines_are = are; is_header = good }, λ n has. let e = has.lines_are in cc)
       after_header (line ∷ ms) are good read = count_fault text header line ms fault integers are good (count_outcome line line.fields refl) read
 
-pub first_fault_found : (text : List ℕ) (fault : PartFault) → IntegersAreFound → reading text ≡ Err fault → HasFirstFault text fault
+pub first_fault_found : (text : List ℕ) (fault : PartFault) → IntegersAreFound → reading text ≡ Err fault → HasFirstParticleFault text fault
 unfolding reading
 first_fault_found text fault integers read = lines_fault text (field_lines text) fault integers refl read
 
 -- the reading after lines that spell particles
-front_reads : (text : List ℕ) (due k : ℕ) (ps : List Particle) (rest : List FieldLine) → IntegersAreFound → DigitsAreFound → SpellsFront text due ps rest → due ≡ length ps + k → reading text ≡ particles_in (length (lines text)) k ps rest
+front_reads : (text : List ℕ) (due k : ℕ) (ps : List Particle) (rest : List FieldLine) → IntegersAreFound → DigitsAreFound → SpellsFront text due ps rest → due ≡ length ps + k → reading text ≡ particles_read (length (lines text)) k ps rest
 unfolding reading
 front_reads text due k ps rest integers digits front is =
     ap (reading_of (length (lines text))) front.lines_are
     ∙ ap (λ b. cond b (counted_in (length (lines text)) (front.count ∷ (front.front ++ rest))) (Err faults.Header)) (header_read front.header front.is_header)
-    ∙ ap (λ r. r >>= λ due. particles_in (length (lines text)) due [] (front.front ++ rest)) (count_read front.count due digits front.is_count front.few)
-    ∙ ap (λ d. particles_in (length (lines text)) d [] (front.front ++ rest)) is
+    ∙ ap (λ r. r >>= λ due. particles_read (length (lines text)) due [] (front.front ++ rest)) (count_read front.count due digits front.is_count front.few)
+    ∙ ap (λ d. particles_read (length (lines text)) d [] (front.front ++ rest)) is
     ∙ particles_in-front (length (lines text)) k [] ps front.front rest integers front.each front.distinct
 
 stops_in_line : (text : List ℕ) (fault : PartFault) → IntegersAreFound → DigitsAreFound → StopsInLine text fault → reading text ≡ Err fault
@@ -224,7 +224,7 @@ stops_in_line text fault integers digits stops =
     let less = stops.more_due in
     let due : stops.due ≡ length stops.ps + suc (stops.due - suc (length stops.ps)) = omega arith in
     front_reads text stops.due (suc (stops.due - suc (length stops.ps))) stops.ps (stops.line ∷ stops.rest) integers digits stops.front due
-    ∙ ap (λ r. r >>= λ p. particles_in (length (lines text)) (stops.due - suc (length stops.ps)) (stops.ps ++ p ∷ []) stops.rest) (line_fault_only stops.ps stops.line fault integers stops.in_line)
+    ∙ ap (λ r. r >>= λ p. particles_read (length (lines text)) (stops.due - suc (length stops.ps)) (stops.ps ++ p ∷ []) stops.rest) (line_fault_only stops.ps stops.line fault integers stops.in_line)
 
 no_header : (text : List ℕ) (ls : List FieldLine) → field_lines text ≡ ls → ((rest : List FieldLine) → HasHeader text rest → ⊥) → reading_of (length (lines text)) ls ≡ Err faults.Header
 no_header text [] are none = refl
@@ -245,16 +245,16 @@ no_count_read : (count : ℕ) (rest : List FieldLine) → ((n : ℕ) → HasCoun
 no_count_read count [] none = refl
 no_count_read count (line ∷ more) none = go (count_outcome line line.fields refl) where
   go : CountOutcome line → counted_in count (line ∷ more) ≡ Err faults.Count
-  go (no_count stops other) = ap (λ r. r >>= λ due. particles_in count due [] more) stops
+  go (no_count stops other) = ap (λ r. r >>= λ due. particles_read count due [] more) stops
   go (is_few n is small reads) = absurd (none n (record { count = line; more = more; lines_are = refl; is_count = is }))
   go (too_many n is large stops) = absurd (none n (record { count = line; more = more; lines_are = refl; is_count = is }))
 
 too_many_read : (count n : ℕ) (line : FieldLine) (more : List FieldLine) → IsCount line n → MOST_PARTICLES < n → CountOutcome line → counted_in count (line ∷ more) ≡ Err faults.TooMany
 too_many_read count n line more is large (no_count stops other) = absurd (other n is)
 too_many_read count n line more is large (is_few m also small reads) = let same = one_count line m n also is in absurd (omega arith)
-too_many_read count n line more is large (too_many m also past stops) = ap (λ r. r >>= λ due. particles_in count due [] more) stops
+too_many_read count n line more is large (too_many m also past stops) = ap (λ r. r >>= λ due. particles_read count due [] more) stops
 
-pub first_fault_only : (text : List ℕ) (fault : PartFault) → IntegersAreFound → DigitsAreFound → HasFirstFault text fault → reading text ≡ Err fault
+pub first_fault_only : (text : List ℕ) (fault : PartFault) → IntegersAreFound → DigitsAreFound → HasFirstParticleFault text fault → reading text ≡ Err fault
 unfolding reading
 first_fault_only text faults.Header integers digits none = no_header text (field_lines text) refl none
 first_fault_only text faults.Count integers digits is = after_header text is.0 is.1 ∙ no_count_read (length (lines text)) is.0 is.2

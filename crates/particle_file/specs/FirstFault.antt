@@ -110,14 +110,15 @@ pub record HasCount (rest : List FieldLine) (n : ℕ) : Type 0 where
   pub lines_are : rest ≡ count ∷ more
   pub is_count : IsCount count n
 
-abbrev pub HasFirstFault : List ℕ → PartFault → Type 0
-HasFirstFault text faults.Header = (rest : List FieldLine) → HasHeader text rest → ⊥
-HasFirstFault text faults.Count = (rest : List FieldLine) × HasHeader text rest × ((n : ℕ) → HasCount rest n → ⊥)
-HasFirstFault text faults.TooMany =
+abbrev pub HasFirstParticleFault : List ℕ → PartFault → Type 0
+HasFirstParticleFault text faults.Header = (rest : List FieldLine) → HasHeader text rest → ⊥
+HasFirstParticleFault text faults.Count =
+    (rest : List FieldLine) × HasHeader text rest × ((n : ℕ) → HasCount rest n → ⊥)
+HasFirstParticleFault text faults.TooMany =
     (rest : List FieldLine) × (n : ℕ) × HasHeader text rest × HasCount rest n × (MOST_PARTICLES < n)
-HasFirstFault text (faults.Short line) = (line ≡ length (lines text) + 1) × EndsEarly text
-HasFirstFault text (faults.Trailing line) = GoesOn text line
-HasFirstFault text (faults.Field line column) = StopsInLine text (faults.Field line column)
-HasFirstFault text (faults.Range line column) = StopsInLine text (faults.Range line column)
-HasFirstFault text (faults.DuplicateId line) = StopsInLine text (faults.DuplicateId line)
-HasFirstFault text faults.Memory = ⊥
+HasFirstParticleFault text (faults.Short line) = (line ≡ length (lines text) + 1) × EndsEarly text
+HasFirstParticleFault text (faults.Trailing line) = GoesOn text line
+HasFirstParticleFault text (faults.Field line column) = StopsInLine text (faults.Field line column)
+HasFirstParticleFault text (faults.Range line column) = StopsInLine text (faults.Range line column)
+HasFirstParticleFault text (faults.DuplicateId line) = StopsInLine text (faults.DuplicateId line)
+HasFirstParticleFault text faults.Memory = ⊥

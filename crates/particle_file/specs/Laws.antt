@@ -3,7 +3,7 @@ use Rattle.std.specs.Prelude.{◌≡◌, ◌↔◌, ℕ, List, Ok, Err}
 use Rattle.std.specs.List.{AllByRecursion}
 use Rattle.pf_model.specs.Particle.{Particle, IsParticle}
 use Rattle.pf_model.specs.Particles.{AreBodies}
-use Rattle.particle_file.specs.FirstFault.{HasFirstFault}
+use Rattle.particle_file.specs.FirstFault.{HasFirstParticleFault}
 use Rattle.particle_file.specs.declared.fault.PartFault.{PartFault}
 use Rattle.particle_file.specs.Printing.{particles_text}
 use Rattle.particle_file.specs.Reading.{reading}
@@ -19,7 +19,7 @@ WhatIsReadIsSpelled = (text : List ℕ) (ps : List Particle) → reading text �
 
 -- a text has a first fault exactly where reading answers it, so it has one at most
 abbrev pub FaultsAreFirst : Type 0
-FaultsAreFirst = (text : List ℕ) (fault : PartFault) → (reading text ≡ Err fault) ↔ HasFirstFault text fault
+FaultsAreFirst = (text : List ℕ) (fault : PartFault) → (reading text ≡ Err fault) ↔ HasFirstParticleFault text fault
 
 -- what is spelled keeps every limit, and has no attributes past c3
 abbrev pub WhatIsSpelledIsPlain : Type 0

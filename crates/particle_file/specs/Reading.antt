@@ -50,12 +50,12 @@ particle_in before line =
     else Ok (particle_of ns))
 
 -- after these particles as many as are due, each in a line; the text has `count` lines in all
-abbrev pub particles_in : ℕ → ℕ → List Particle → List FieldLine → Result (List Particle) PartFault
-particles_in count zero before [] = Ok before
-particles_in count zero before (line ∷ lines) = Err (faults.Trailing line.number)
-particles_in count (suc due) before [] = Err (faults.Short (suc count))
-particles_in count (suc due) before (line ∷ lines) =
-    particle_in before line >>= λ p. particles_in count due (before ++ p ∷ []) lines
+abbrev pub particles_read : ℕ → ℕ → List Particle → List FieldLine → Result (List Particle) PartFault
+particles_read count zero before [] = Ok before
+particles_read count zero before (line ∷ lines) = Err (faults.Trailing line.number)
+particles_read count (suc due) before [] = Err (faults.Short (suc count))
+particles_read count (suc due) before (line ∷ lines) =
+    particle_in before line >>= λ p. particles_read count due (before ++ p ∷ []) lines
 
 -- a line with just these two fields, if it has no more
 abbrev pub two_of : List (List ℕ) → Option (List ℕ × List ℕ)
@@ -80,7 +80,7 @@ count_in fields =
 -- a count, and as many particles; the text has `count` lines in all
 abbrev pub counted_in : ℕ → List FieldLine → Result (List Particle) PartFault
 counted_in count [] = Err faults.Count
-counted_in count (line ∷ lines) = count_in line.fields >>= λ due. particles_in count due [] lines
+counted_in count (line ∷ lines) = count_in line.fields >>= λ due. particles_read count due [] lines
 
 -- a header, a count, and as many particles
 abbrev pub reading_of : ℕ → List FieldLine → Result (List Particle) PartFault
@@ -91,6 +91,6 @@ unfoldable pub reading : List ℕ → Result (List Particle) PartFault
 reading text = reading_of (length (lines text)) (field_lines text)
 
 -- what a call answered is this reading, unless memory ran out
-abbrev pub GivesUnlessMemory : {A : Type 0} → Result A PartFault → Result A PartFault → Type 0
-GivesUnlessMemory (Ok x) read = read ≡ Ok x
-GivesUnlessMemory (Err fault) read = (fault ≡ faults.Memory) ⊎ (read ≡ Err fault)
+abbrev pub GivesParticlesUnlessMemory : {A : Type 0} → Result A PartFault → Result A PartFault → Type 0
+GivesParticlesUnlessMemory (Ok x) read = read ≡ Ok x
+GivesParticlesUnlessMemory (Err fault) read = (fault ≡ faults.Memory) ⊎ (read ≡ Err fault)

@@ -29,9 +29,9 @@ pub enum PartFault {
 
 impl fmt::Display for PartFault {
     ghost use Rattle.std.specs.Prelude.{Some};
-    ghost use Rattle.particle_file.specs.FaultText.{fault_text};
+    ghost use Rattle.particle_file.specs.FaultText.{particle_fault_text};
 
-    ghost output = { λ fault. Some (fault_text fault) };
+    ghost output = { λ fault. Some (particle_fault_text fault) };
 
     fn fmt<W: fmt::Write>(&self, f: &mut fmt::Formatter<W>) -> fmt::Result {
         match self {

@@ -2,7 +2,7 @@ ghost use Rattle.std.specs.Prelude.{◌≡◌, [], ◌∷◌, ◌++◌, pos, tak
 ghost use Rattle.std.specs.List.{AllByRecursion};
 ghost use Rattle.text_lines.specs.Written.{written_line};
 ghost use Rattle.particle_file.specs.Spelling.{IsPlain};
-ghost use Rattle.particle_file.specs.Printing.{fields_of, particles_text};
+ghost use Rattle.particle_file.specs.Printing.{number_fields, particles_text};
 
 use crate::Particles;
 use pf_geom::Point;
@@ -28,7 +28,7 @@ pub fn print(alloc: Global, particles: &Particles) -> Result<Vec<u8>, OutOfMemor
 }
 
 fn push_line(out: &mut Vec<u8>, body: &Body) -> Result<(), OutOfMemory>
-    ensures { OnOk result (out.new.items ≡ out.old.items ++ written_line (fields_of body.now)) }
+    ensures { OnOk result (out.new.items ≡ out.old.items ++ written_line (number_fields body.now)) }
 {
     let others = numbers_after_id(body.at, body.vel, body.mass, body.attr);
     push_decimal(out, i128::from(body.id))?;

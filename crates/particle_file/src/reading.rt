@@ -3,8 +3,8 @@ ghost use Rattle.std.specs.Cmp.Lexicographic.{pointwise};
 ghost use Rattle.std.specs.Option.{option_map};
 ghost use Rattle.std.specs.List.{AllByRecursion};
 ghost use Rattle.pf_model.specs.Particles.{AreBodies};
-ghost use Rattle.particle_file.specs.FirstFault.{HasFirstFault};
-ghost use Rattle.particle_file.specs.Reading.{two_of, is_header, count_in, particles_in, counted_in, reading_of, reading, GivesUnlessMemory};
+ghost use Rattle.particle_file.specs.FirstFault.{HasFirstParticleFault};
+ghost use Rattle.particle_file.specs.Reading.{two_of, is_header, count_in, particles_read, counted_in, reading_of, reading, GivesParticlesUnlessMemory};
 ghost use Rattle.particle_file.specs.Spelling.{IsPlain, SpellsText};
 ghost use Rattle.particle_file.specs.declared.fault.PartFault.TheVariants.{Memory};
 
@@ -21,9 +21,9 @@ pub fn read(alloc: Global, text: &[u8]) -> Result<Particles, PartFault>
     requires { length text.now ≤ 2 ^ 31 }
     ensures spelled { IfOk result (λ particles. SpellsText text.now particles) }
     ensures plain { IfOk result (λ particles. AllByRecursion IsPlain particles) }
-    ensures first { IfErr result (λ fault. (fault ≡ Memory) ⊎ HasFirstFault text.now fault) }
+    ensures first { IfErr result (λ fault. (fault ≡ Memory) ⊎ HasFirstParticleFault text.now fault) }
     // Each answer comes wherever it is the text's reading, but for want of memory.
-    ensures exact { GivesUnlessMemory result (reading text.now) }
+    ensures exact { GivesParticlesUnlessMemory result (reading text.now) }
 {
     reading_is_spelling();
     let mut lines = Lines::new(text);
@@ -38,7 +38,7 @@ pub fn read(alloc: Global, text: &[u8]) -> Result<Particles, PartFault>
 // The count of the particles, after the header.
 fn head(lines: &mut Lines<'_>) -> Result<u32, PartFault>
     ensures ok { IfOk result (λ due. reading_of lines.old.count lines.old.ahead
-        ≡ particles_in lines.old.count due [] lines.new.ahead) }
+        ≡ particles_read lines.old.count due [] lines.new.ahead) }
     ensures few { IfOk result (λ due. due ≤ MOST_PARTICLES) }
     ensures count { lines.new.count ≡ lines.old.count }
     ensures err { IfErr result (λ fault. reading_of lines.old.count lines.old.ahead ≡ Err fault) }
@@ -100,12 +100,12 @@ fn two_of(line: Line<'_>) -> Option<(&[u8], &[u8])>
 // As many particles as are due, each of a line.
 fn bodies_in(alloc: Global, lines: &mut Lines<'_>, due: u32) -> Result<Vec<Body>, PartFault>
     requires { due ≤ MOST_PARTICLES }
-    ensures ok { IfOk result (λ bodies. particles_in lines.old.count due [] lines.old.ahead
-        ≡ particles_in lines.old.count 0 bodies.items lines.new.ahead) }
+    ensures ok { IfOk result (λ bodies. particles_read lines.old.count due [] lines.old.ahead
+        ≡ particles_read lines.old.count 0 bodies.items lines.new.ahead) }
     ensures bodies { IfOk result (λ bodies. AreBodies bodies.items) }
     ensures count { lines.new.count ≡ lines.old.count }
     ensures err { IfErr result (λ fault. (fault ≡ Memory)
-        ⊎ (particles_in lines.old.count due [] lines.old.ahead ≡ Err fault)) }
+        ⊎ (particles_read lines.old.count due [] lines.old.ahead ≡ Err fault)) }
 {
     let mut ids = BTreeSet::new(alloc);
     let mut bodies = Vec::new(alloc);

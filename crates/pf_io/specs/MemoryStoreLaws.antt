@@ -18,11 +18,13 @@ contents_there : (files : List NamedBytes) (i : ℕ) → IfSome (slice_get files
 contents_there [] i = tt
 contents_there (g ∷ files) zero =
     subst
-    (λ (first : Bool). IsSome (option_map (λ (f : NamedBytes). f.bytes) (cond first (Some g) (find (λ x. bytes_eq g.name x.name) files))))
+    (λ (first : Bool). IsSome (option_map (λ (f : NamedBytes). f.bytes)
+    (cond first (Some g) (find (λ x. bytes_eq g.name x.name) files))))
     (sym ((bytes_eq-Decides g.name g.name).1 refl))
     refl
 contents_there (g ∷ files) (suc i) =
-    IfSome_then (slice_get files i) (contents_there files i) (λ (f : NamedBytes) there. or_first (bytes_eq f.name g.name) (find (λ x. bytes_eq f.name x.name) files) there)
+    IfSome_then (slice_get files i) (contents_there files i)
+    (λ (f : NamedBytes) there. or_first (bytes_eq f.name g.name) (find (λ x. bytes_eq f.name x.name) files) there)
   where
     or_first : (first : Bool) (other : Option NamedBytes) → IsSome (option_map (λ (f : NamedBytes). f.bytes) other)
         → IsSome (option_map (λ (f : NamedBytes). f.bytes) (cond first (Some g) other))
@@ -38,6 +40,7 @@ has_sink_among s = by_place s.sink where
   named (Some f) there = there
 
   by_place : (place : Option ℕ)
-      → IfSome (option_map (λ (f : NamedBytes). f.name) (option_and_then (slice_get s.files) place)) (λ name. IsSome (contents_of s.files name))
+      → IfSome (option_map (λ (f : NamedBytes). f.name) (option_and_then (slice_get s.files) place))
+      (λ name. IsSome (contents_of s.files name))
   by_place None = tt
   by_place (Some i) = named (slice_get s.files i) (contents_there s.files i)

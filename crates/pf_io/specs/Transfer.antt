@@ -16,7 +16,8 @@ IsSameButUnread before after = option_map without_unread after ≡ option_map wi
 
 -- the named file was opened, and at most that many of its bytes were read
 abbrev pub ReadsPart : List ℕ → ℕ → Option Told → Option Told → Type 0
-ReadsPart name most before after = (n : ℕ) × (n ≤ most) × (after ≡ option_map (λ t. after_read n (after_open name t)) before)
+ReadsPart name most before after =
+    (n : ℕ) × (n ≤ most) × (after ≡ option_map (λ t. after_read n (after_open name t)) before)
 
 -- whether there is a source before and after an answer of `read_all`
 abbrev pub HasSourceAfter : {A : Type 0} → Result A ReadFault → Bool → Bool → Type 0

@@ -18,9 +18,21 @@ impl Model for FaultCounts {
 
     ghost Value = { Faults };
 
-    ghost view = { λ f. record { opens = f.opens; reads = f.reads; creates = f.creates; writes = f.writes; says = f.says } };
+    ghost view = { λ f. record {
+      opens = f.opens;
+      reads = f.reads;
+      creates = f.creates;
+      writes = f.writes;
+      says = f.says;
+    } };
 
-    ghost inverse = { λ f. record { opens = f.opens; reads = f.reads; creates = f.creates; writes = f.writes; says = f.says } };
+    ghost inverse = { λ f. record {
+      opens = f.opens;
+      reads = f.reads;
+      creates = f.creates;
+      writes = f.writes;
+      says = f.says;
+    } };
 }
 
 impl FaultCounts {

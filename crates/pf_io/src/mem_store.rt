@@ -43,7 +43,9 @@ impl MemFile {
     }
 
     fn append(&mut self, piece: &[u8]) -> Result<(), AllocError>
-        ensures { self.new ≡ record self.old { bytes = (if is_ok result then self.old.bytes ++ piece.now else self.old.bytes) } }
+        ensures { self.new ≡ record self.old {
+          bytes = (if is_ok result then self.old.bytes ++ piece.now else self.old.bytes);
+        } }
     {
         self.bytes.extend_from_slice(piece)
     }
@@ -103,7 +105,8 @@ fn count_call(calls: &mut u64, fails: &[u64]) -> bool
 fn create_in(alloc: Global, files: &mut Vec<MemFile>, name: &str) -> Result<usize, AllocError>
     ensures first { IfOk result (λ i. position (λ f. bytes_eq name.now f.name) files.new.items ≡ Some i) }
     ensures named { IfOk result (λ i. slice_get files.new.items i ≡ Some (record { name = name.now; bytes = [] })) }
-    ensures contents { OnOk result (contents_of files.new.items ≡ with_contents (contents_of files.old.items) name.now []) }
+    ensures contents { OnOk result (contents_of files.new.items
+        ≡ with_contents (contents_of files.old.items) name.now []) }
     ensures err { OnErr result (files.new.items ≡ files.old.items) }
 {
     if let Some(i) = place_of(files, name) {
@@ -154,8 +157,8 @@ impl Model for MemStore {
 }
 
 impl MemStore {
-    /// A store of these files, of which the first is meant where two have one name. The calls whose numbers `fails` has, counted from 1 over all methods, are to
-    /// fail, and a call of `read` or `write` moves at most `most` bytes.
+    /// A store of these files, of which the first is meant where two have one name. The calls whose numbers `fails`
+    /// has, counted from 1 over all methods, are to fail, and a call of `read` or `write` moves at most `most` bytes.
     pub fn new(alloc: Global, files: Vec<MemFile>, fails: Vec<u64>, most: usize) -> MemStore
         requires { 0 < most }
         ensures { result ≡ fresh_store files.items fails.items most }
@@ -206,8 +209,10 @@ impl Store for MemStore {
         requires { self.old.faults.opens < 2 ^ 64 - 1 }
 
         // A call fails exactly by its number or the method's own cause, and gives up otherwise only for want of memory.
-        ensures fails { result ≡ Err StoreErr.Failed ↔ IsTrue (fails_by_number self.old) ⊎ contents_of self.old.files name.now ≡ None }
-        ensures opened { OnOk result (self.new ≡ record (one_more_call self.old) { source = contents_of self.old.files name.now }) }
+        ensures fails { result ≡ Err StoreErr.Failed
+            ↔ IsTrue (fails_by_number self.old) ⊎ contents_of self.old.files name.now ≡ None }
+        ensures opened { OnOk result (self.new
+            ≡ record (one_more_call self.old) { source = contents_of self.old.files name.now }) }
         ensures err { OnErr result (self.new ≡ after_err one_more_open result self.old) }
     {
         let fails = count_call(&mut self.calls, &self.fails);
@@ -227,11 +232,13 @@ impl Store for MemStore {
 
         ensures fails { result ≡ Err StoreErr.Failed ↔ IsTrue (fails_by_number self.old) ⊎ self.old.source ≡ None }
         ensures no_memory { result ≢ Err StoreErr.Memory }
-        ensures count { IfOk result (λ n. n ≡ min (min (length (told_of self.old).unread) (length buf.old)) self.old.most) }
+        ensures count { IfOk result (λ n.
+            n ≡ min (min (length (told_of self.old).unread) (length buf.old)) self.old.most) }
         ensures end { IfOk result (λ n. n ≡ 0 → 0 < length buf.old → (told_of self.old).unread ≡ []) }
         ensures bytes { IfOk result (λ n. buf.new ≡ take n (told_of self.old).unread ++ drop n buf.old) }
         ensures buffer_stays { OnErr result (buf.new ≡ buf.old) }
-        ensures taken { IfOk result (λ n. self.new ≡ record (one_more_call self.old) { source = option_map (drop n) self.old.source }) }
+        ensures taken { IfOk result (λ n. self.new
+            ≡ record (one_more_call self.old) { source = option_map (drop n) self.old.source }) }
         ensures err { OnErr result (self.new ≡ after_err one_more_read result self.old) }
     {
         let fails = count_call(&mut self.calls, &self.fails);
@@ -249,7 +256,8 @@ impl Store for MemStore {
 
         ensures fails { result ≡ Err StoreErr.Failed ↔ IsTrue (fails_by_number self.old) }
         ensures created { OnOk result (told_of self.new ≡ after_create name.now (told_of self.old)) }
-        ensures rest_stays { OnOk result (self.new ≡ record (one_more_call self.old) { files = self.new.files; sink = self.new.sink }) }
+        ensures rest_stays { OnOk result (self.new
+            ≡ record (one_more_call self.old) { files = self.new.files; sink = self.new.sink }) }
         ensures err { OnErr result (self.new ≡ after_err one_more_create result self.old) }
     {
         if count_call(&mut self.calls, &self.fails) {

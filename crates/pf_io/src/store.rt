@@ -84,7 +84,8 @@ pub trait Store {
 
         ensures within { IfOk result (λ n. n ≤ length piece.now) }
         ensures some { IfOk result (λ n. 0 < length piece.now → 0 < n) }
-        ensures written { IfOk result (λ n. told self.new ≡ option_map (after_write (take n piece.now)) (told self.old)) }
+        ensures written { IfOk result (λ n. told self.new
+            ≡ option_map (after_write (take n piece.now)) (told self.old)) }
         ensures err { OnErr result (told self.new ≡ told self.old) }
 
         ensures open { OnOk result (IsTrue (has_sink self.old)) }

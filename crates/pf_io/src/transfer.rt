@@ -119,7 +119,8 @@ pub fn write_all<S: Store>(store: &mut S, piece: &[u8]) -> Result<(), WriteFault
     ensures faults { S.faults store.new ≡ write_all_counted result (S.faults store.old) }
 
     ensures stays_steady { IsTrue (S.is_steady store.old) → IsTrue (S.is_steady store.new) }
-    ensures steady { IsTrue (S.is_steady store.old) → result ≡ Err WriteFault.WriteFailed → S.has_sink store.old ≡ false }
+    ensures steady { IsTrue (S.is_steady store.old) → result ≡ Err WriteFault.WriteFailed
+        → S.has_sink store.old ≡ false }
 {
     let mut done = 0;
     loop {

@@ -24,7 +24,7 @@ pub record IsMass (mass : ℕ) : Type 0 where
   pub fits : mass < 2 ^ 31
 
 -- what each particle keeps beside its place
-pub record IsWithinLimits (vel : List ℤ) (mass : ℕ) (attr : List ℤ) : Type 0 where
+pub record HasParticleLimits (vel : List ℤ) (mass : ℕ) (attr : List ℤ) : Type 0 where
   pub slow : All IsVelocity vel
   pub heavy : IsMass mass
   pub small : All IsAttribute attr
@@ -35,4 +35,4 @@ pub record IsParticle (p : Particle) : Type 0 where
   pub in_cube : IsInCube p.at.x p.at.y p.at.z
   pub three : length p.vel ≡ 3
   pub eight : length p.attr ≡ 8
-  pub limits : IsWithinLimits p.vel p.mass p.attr
+  pub limits : HasParticleLimits p.vel p.mass p.attr

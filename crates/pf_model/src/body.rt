@@ -15,13 +15,13 @@ pub struct Body {
 }
 
 impl Model for Body {
-    ghost use Rattle.pf_model.specs.Particle.{Particle, IsWithinLimits};
+    ghost use Rattle.pf_model.specs.Particle.{Particle, HasParticleLimits};
 
     ghost Value = { Particle };
 
     ghost view = { λ b. record { id = b.id; at = b.at; vel = b.vel; mass = b.mass; attr = b.attr } };
 
-    ghost invariant = { λ b. IsWithinLimits b.vel b.mass b.attr };
+    ghost invariant = { λ b. HasParticleLimits b.vel b.mass b.attr };
 
     ghost inverse = { λ p. record { id = p.id; at = p.at; vel = p.vel; mass = p.mass; attr = p.attr } };
 }

@@ -14,7 +14,7 @@ use Rattle.run_model.specs.Setup.{Setup}
 use Rattle.run_model.specs.Force.{first_given, force_row, force_fault}
 use Rattle.run_model.specs.Run.{WithForces, State, Stop, Lists, as_built, list_for, with_forces, moved, kicked_again, kick_fault, move_fault, lists_fault, forces_fault, numeric, is_build, built_at, fault_at_start, state_at_start, fault_after, state_after, unless_stopped, state, first_fault}
 use Rattle.run_model.specs.Text.{body_row}
-use Rattle.run_model.specs.RunLaws.{HasAll, KeepsLimits, on_grid, but_for_owner, IsSameButForOwners}
+use Rattle.run_model.specs.RunLaws.{HasAll, StaysWithinLimits, on_grid, but_for_owner, IsSameButForOwners}
 use Rattle.run_model.proofs.OnceEach.{In, map_in, map_same}
 use Rattle.run_model.proofs.PlaceLemmas.{PlaceLaws, AreInCube, same_count, box_with}
 use Rattle.run_model.proofs.ParticleLemmas.{moved_ids, states_keep}
@@ -102,7 +102,7 @@ module _ (laws : PlaceLaws) (u : Setup) (g : Division) (of_u : IsDivision u.grid
   no_move : State → Type 0
   no_move before = first_given (move_fault (in_ones u)) before.bodies ≡ None
 
-  built_in_cube : (s : ℕ) (before : State) → KeepsLimits before → no_move before → AreInCube (built_at (in_ones u) s before)
+  built_in_cube : (s : ℕ) (before : State) → StaysWithinLimits before → no_move before → AreInCube (built_at (in_ones u) s before)
   unfolding no_move
   built_in_cube s before h none =
       let here = moved-limits (in_ones u) before.bodies h.bodies (none_given (move_fault (in_ones u)) before.bodies none) in
@@ -113,13 +113,13 @@ module _ (laws : PlaceLaws) (u : Setup) (g : Division) (of_u : IsDivision u.grid
       cond_both (is_build (in_ones u) s) (moved (in_ones u) before) before.built (λ (js : List Particle). map (λ (p : Particle). p.id) (moved (in_ones u) before) ≡ map (λ (p : Particle). p.id) js) (λ _. refl)
       (λ _. moved_ids (in_ones u) before.bodies ∙ h.bodies ∙ sym h.built)
 
-  fault_after-same : (s : ℕ) (before : State) → HasAll (in_ones u) before → KeepsLimits before → fault_after (in_ones u) s before ≡ fault_after (on_grid (in_ones u) g) s before
+  fault_after-same : (s : ℕ) (before : State) → HasAll (in_ones u) before → StaysWithinLimits before → fault_after (in_ones u) s before ≡ fault_after (on_grid (in_ones u) g) s before
   unfolding no_move
   fault_after-same s before all h =
       first_some-same (first_given (move_fault (in_ones u)) before.bodies) _ _
       (λ none. rest-same s (built_at (in_ones u) s before) (moved (in_ones u) before) (built_in_cube s before h none) (ids_stay s before all) (is_build (in_ones u) s))
 
-  state_after-same : (s : ℕ) (before : State) → HasAll (in_ones u) before → KeepsLimits before → fault_after (in_ones u) s before ≡ None → state_after (in_ones u) s before ≡ state_after (on_grid (in_ones u) g) s before
+  state_after-same : (s : ℕ) (before : State) → HasAll (in_ones u) before → StaysWithinLimits before → fault_after (in_ones u) s before ≡ None → state_after (in_ones u) s before ≡ state_after (on_grid (in_ones u) g) s before
   unfolding no_move
   state_after-same s before all h none =
       ap (λ (bs : List WithForces). record { bodies = map (kicked_again (in_ones u)) bs; built = built_at (in_ones u) s before })

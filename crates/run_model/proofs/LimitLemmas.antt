@@ -17,7 +17,7 @@ use Rattle.pf_model.specs.Order.{placed, in_order_once}
 use Rattle.run_model.specs.Force.{acceleration}
 use Rattle.std.specs.Option.{option_map}
 use Rattle.std.proofs.lemmas.Bool.{cond_both}
-use Rattle.run_model.specs.RunLaws.{KeepsLimits}
+use Rattle.run_model.specs.RunLaws.{StaysWithinLimits}
 use Rattle.run_model.proofs.ParticleLemmas.{same_unless}
 use Rattle.run_model.specs.Run.{WithForces, State, Stop, with_forces, kicked_body, moved_body, kicked_again, kick_fault, drift_fault, move_fault, lists_fault, forces_fault, is_build, built_at, moved, fault_at_start, state_at_start, fault_after, state_after, unless_stopped, state}
 
@@ -147,7 +147,7 @@ kept_where_sound P f g None y before step e = cc
 kept_where_sound P f g (Some x) y before step e =
     subst P (same_unless (f x) (g x) y e) (step x (not_stopped (f x) (g x) y e) (before x refl))
 
-step_keeps : (u : Setup) (s : ℕ) (before : State) → fault_after u s before ≡ None → KeepsLimits before → KeepsLimits (state_after u s before)
+step_keeps : (u : Setup) (s : ℕ) (before : State) → fault_after u s before ≡ None → StaysWithinLimits before → StaysWithinLimits (state_after u s before)
 step_keeps u s before none h =
     let built = built_at u s before in
     let moves = first_given (move_fault u) before.bodies in
@@ -161,10 +161,10 @@ step_keeps u s before none h =
       built = cond_both (is_build u s) (moved u before) before.built (All IsParticle) (λ _. here) (λ _. h.built);
     }
 
-pub states_keep_limits : (u : Setup) (s : ℕ) (now : State) → All IsParticle u.particles → state u s ≡ Some now → KeepsLimits now
+pub states_keep_limits : (u : Setup) (s : ℕ) (now : State) → All IsParticle u.particles → state u s ≡ Some now → StaysWithinLimits now
 unfolding state
 states_keep_limits u zero now h e =
     let read = All-in_order IsParticle _ u.particles h in
-    subst KeepsLimits (same_unless (fault_at_start u) (state_at_start u) now e) (record { bodies = with_forces-limits u (by_id u.particles) (by_id u.particles) read; built = read })
+    subst StaysWithinLimits (same_unless (fault_at_start u) (state_at_start u) now e) (record { bodies = with_forces-limits u (by_id u.particles) (by_id u.particles) read; built = read })
 states_keep_limits u (suc s) now h e =
-    kept_where_sound KeepsLimits (fault_after u (suc s)) (state_after u (suc s)) (state u s) now (λ before f. states_keep_limits u s before h f) (step_keeps u (suc s)) e
+    kept_where_sound StaysWithinLimits (fault_after u (suc s)) (state_after u (suc s)) (state u s) now (λ before f. states_keep_limits u s before h f) (step_keeps u (suc s)) e

@@ -49,13 +49,13 @@ abbrev pub StatesKeepTheParticles : Type 0
 StatesKeepTheParticles = (u : Setup) (s : ℕ) (now : State) → state u s ≡ Some now → HasAll u now
 
 -- nor do they leave the limits of particles
-pub record KeepsLimits (now : State) : Type 0 where
+pub record StaysWithinLimits (now : State) : Type 0 where
   pub bodies : All (λ b. IsParticle b.body) now.bodies
   pub built : All IsParticle now.built
 
 abbrev pub StatesKeepTheLimits : Type 0
 StatesKeepTheLimits =
-    (u : Setup) (s : ℕ) (now : State) → All IsParticle u.particles → state u s ≡ Some now → KeepsLimits now
+    (u : Setup) (s : ℕ) (now : State) → All IsParticle u.particles → state u s ≡ Some now → StaysWithinLimits now
 
 -- a run whose particles were read in another order
 abbrev pub with_particles : Setup → List Particle → Setup

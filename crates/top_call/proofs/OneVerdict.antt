@@ -10,7 +10,7 @@ use Rattle.kern_tree.specs.OneAnswer.{OneAnswer}
 use Rattle.kern_types.specs.OneTyping.{OneTyping, OneTypeFault}
 use Rattle.kern_types.specs.WellTyped.{WellTyped, HasFirstTypeFault}
 use Rattle.deck_file.specs.Laws.{NoTextHasTwoReadings}
-use Rattle.deck_file.specs.Reading.{Reads}
+use Rattle.deck_file.specs.Reading.{ReadsDeck}
 use Rattle.particle_file.specs.Reading.{reading}
 use Rattle.pf_io.specs.Store.{Files}
 use Rattle.command_line.specs.declared.command.Command.{Command}
@@ -95,7 +95,7 @@ module _ (one : InputsAreOne) (text : List ℕ) where
 module _ (one : InputsAreOne) (files : Files) where
   one_run : (name : List ℕ) → AtMostOne (RunMeans name files)
   one_run name = one_after DeckFileMeans files name (λ deck. WithDeck deck files)
-      (one_within MOST_TEXT refusals.DeckTooLarge DeckMeans (one_refusing refusals.Deck Reads one.decks))
+      (one_within MOST_TEXT refusals.DeckTooLarge DeckMeans (one_refusing refusals.Deck ReadsDeck one.decks))
       (λ deck. one_unless (option_map NotBuilt (unbuilt deck)) (WithBuiltDeck deck files)
       (one_after KernelFileMeans files deck.kernel (λ kernel. WithKernel deck kernel files)
       (one_within MOST_TEXT refusals.KernelTooLarge KernelMeans (one_kernel one))

@@ -9,7 +9,7 @@ use Rattle.kern_tree.specs.FirstFault.{IsKernelOf, HasFirstFault}
 use Rattle.kern_types.specs.declared.fault.TypeFault.{TypeFault}
 use Rattle.kern_types.specs.WellTyped.{WellTyped, HasFirstTypeFault}
 use Rattle.deck_file.specs.declared.deck.Deck.{Deck}
-use Rattle.deck_file.specs.Reading.{Reads}
+use Rattle.deck_file.specs.Reading.{ReadsDeck}
 use Rattle.particle_file.specs.Reading.{reading}
 use Rattle.pf_model.specs.Particle.{Particle}
 use Rattle.command_frame.specs.Verdict.{Refusing, Within}
@@ -18,7 +18,7 @@ use Rattle.top_call.specs.declared.status.Refusal.TheVariants as refusals
 
 -- a deck's text: the deck that it spells, or its first fault
 abbrev pub DeckMeans : List ℕ → Result Deck Refusal → Type 0
-DeckMeans text answer = Refusing refusals.Deck Reads text answer
+DeckMeans text answer = Refusing refusals.Deck ReadsDeck text answer
 
 -- a kernel's text: the tree that its tokens spell, well typed, or the first fault of its tokens, its tree or its types
 abbrev pub KernelMeans : List ℕ → Result Kernel Refusal → Type 0

@@ -2,7 +2,7 @@
 use Rattle.std.specs.Prelude.{ℕ, List, [], ◌++◌, codes, decimal}
 use Rattle.pf_geom.specs.declared.axis.Axis.{Axis}
 use Rattle.pf_geom.specs.declared.axis.Axis.TheVariants.{X, Y, Z}
-use Rattle.kern_token.specs.FaultText.{fault_text}
+use Rattle.kern_token.specs.FaultText.{kernel_fault_text}
 use Rattle.kern_types.specs.FaultText.{type_fault_text}
 use Rattle.kern_meaning.specs.declared.fault.PairKind.{PairKind}
 use Rattle.kern_meaning.specs.declared.fault.PairKind.TheVariants as kinds
@@ -24,10 +24,10 @@ abbrev pub refusal_line : Refusal → List ℕ
 refusal_line refusals.DeckTooLarge = codes "fdps: deck: TooLarge\n"
 refusal_line (refusals.Deck fault) = codes "fdps: deck: " ++ deck_fault_text fault ++ codes "\n"
 refusal_line refusals.KernelTooLarge = codes "fdps: kernel: TooLarge\n"
-refusal_line (refusals.Kernel fault) = codes "fdps: kernel: " ++ fault_text fault ++ codes "\n"
+refusal_line (refusals.Kernel fault) = codes "fdps: kernel: " ++ kernel_fault_text fault ++ codes "\n"
 refusal_line (refusals.Types fault) = codes "fdps: types: " ++ type_fault_text fault ++ codes "\n"
 refusal_line refusals.ParticlesTooLarge = codes "fdps: particles: TooLarge\n"
-refusal_line (refusals.Particles fault) = codes "fdps: particles: " ++ particles.fault_text fault ++ codes "\n"
+refusal_line (refusals.Particles fault) = codes "fdps: particles: " ++ particles.particle_fault_text fault ++ codes "\n"
 
 abbrev pub kind_name : PairKind → List ℕ
 kind_name kinds.Overflow = codes "Overflow"

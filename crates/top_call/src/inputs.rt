@@ -2,7 +2,7 @@ ghost use Rattle.std.specs.Prelude.{◌≡◌, ◌≤◌, ◌^◌, length, true,
 ghost use Rattle.kern_token.specs.declared.limits.TheConstants.{MOST_TEXT};
 ghost use Rattle.deck_file.specs.Laws.{IsWithinLimits};
 ghost use Rattle.deck_file.specs.Values.{is_name};
-ghost use Rattle.command_frame.specs.Reading.{Interprets, Reads};
+ghost use Rattle.command_frame.specs.Reading.{Interprets, ReadsInput};
 ghost use Rattle.command_frame.specs.Standing.{standing};
 ghost use Rattle.command_frame.specs.Status.{HasRoom};
 ghost use Rattle.top_call.specs.Inputs.{DeckFileMeans, DeckMeans, KernelFileMeans, KernelMeans};
@@ -26,7 +26,7 @@ const MOST_PARTICLE_BYTES: usize = 1 << 24;
 /// The deck in the file of this name.
 pub(crate) fn read_deck<S: Store>(alloc: Global, store: &mut S, name: &str) -> Result<Deck, Status>
     requires { HasRoom (S.faults store.old) }
-    ensures reads { Reads DeckFileMeans (λ deck. deck) name.now result
+    ensures reads { ReadsInput DeckFileMeans (λ deck. deck) name.now result
         (standing (S.told store.old) (S.faults store.old) (S.is_steady store.old))
         (standing (S.told store.new) (S.faults store.new) (S.is_steady store.new)) }
     ensures within { IfOk result IsWithinLimits }
@@ -63,7 +63,7 @@ pub(crate) fn read_kernel<S: Store>(
     name: &str,
 ) -> Result<Typed, Status>
     requires { HasRoom (S.faults store.old) }
-    ensures { Reads KernelFileMeans (λ kernel. kernel) name.now result
+    ensures { ReadsInput KernelFileMeans (λ kernel. kernel) name.now result
         (standing (S.told store.old) (S.faults store.old) (S.is_steady store.old))
         (standing (S.told store.new) (S.faults store.new) (S.is_steady store.new)) }
 {
@@ -91,7 +91,7 @@ pub(crate) fn read_particles<S: Store>(
     name: &str,
 ) -> Result<Particles, Status>
     requires { HasRoom (S.faults store.old) }
-    ensures { Reads ParticleFileMeans (λ particles. particles) name.now result
+    ensures { ReadsInput ParticleFileMeans (λ particles. particles) name.now result
         (standing (S.told store.old) (S.faults store.old) (S.is_steady store.old))
         (standing (S.told store.new) (S.faults store.new) (S.is_steady store.new)) }
 {

@@ -14,17 +14,17 @@ nodes_after true nodes = nodes + 1
 nodes_after false nodes = nodes
 
 -- at a node
-abbrev pub counted : Bool → Bool → ℕ → Option KernFault → Option KernFault
-counted true true place later = Some (faults.TooManyNodes place)
-counted true false place later = later
-counted false _ place later = later
+abbrev pub at_counted_node : Bool → Bool → ℕ → Option KernFault → Option KernFault
+at_counted_node true true place later = Some (faults.TooManyNodes place)
+at_counted_node true false place later = later
+at_counted_node false _ place later = later
 
 -- at a token that stands at this place: whether it is a bracket too many, whether a node would be,
 -- what the grammar tells, and what comes later
 abbrev pub step : ℕ → Bool → Bool → Option Move → (Move → Option KernFault) → Option KernFault
 step place deep full None later = Some (faults.Unexpected place)
 step place true full (Some found) later = Some (faults.TooDeep place)
-step place false full (Some found) later = counted found.is_node full place (later found)
+step place false full (Some found) later = at_counted_node found.is_node full place (later found)
 
 -- the first fault of what is read where these parts are required, with so many nodes read and so
 -- many brackets open

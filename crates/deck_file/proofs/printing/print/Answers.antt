@@ -4,13 +4,13 @@ use Rattle.deck_file.specs.declared.keyword.Keyword.{Keyword}
 use Rattle.deck_file.specs.declared.keyword.Keyword.TheVariants as keys
 use Rattle.deck_file.specs.declared.deck.Deck.{Deck}
 use Rattle.deck_file.specs.Printed.{deck_text, edge_text, settings_of, with_value}
-use Rattle.deck_file.specs.Settings.{fields_of}
+use Rattle.deck_file.specs.Settings.{setting_fields}
 use Rattle.deck_file.proofs.PrintLemmas.{Pushed, pushed_text}
 use Rattle.deck_file.proofs.printing.print.Goals as goal
 
 -- the text and a line of this key
 abbrev with_line : List ℕ → Keyword → List ℕ → List ℕ
-with_line text key value = text ++ written_line (fields_of (with_value key value))
+with_line text key value = text ++ written_line (setting_fields (with_value key value))
 
 pub returns : goal.returns
 returns c =

@@ -1,5 +1,5 @@
 use Rattle.std.proofs.Common.{◌∙◌, sym, ap, subst, [], ◌∷◌, ◌++◌}
-use Rattle.deck_file.specs.Settings.{Gives, IsNext}
+use Rattle.deck_file.specs.Settings.{GiveSettings, IsNext}
 use Rattle.deck_file.proofs.ReadingLemmas.{Gives-more, lines_more}
 use Rattle.deck_file.proofs.reading.settings_of.Goals as goal
 
@@ -12,5 +12,5 @@ loop-line-preserved c =
     subst (λ settings. IsNext settings line setting) c.deref.ensures.value c.in_ok-setting.ensures.ok in (
       before ++ line ∷ [],
       lines_more _ before line c.next_line.new.self.ahead (c.loop-line.invariant.1 ∙ ap (λ ahead. before ++ ahead) c.in-Some.ensures.line),
-      subst (Gives [] (before ++ line ∷ [])) (sym c.in_ok-push.ensures.items) (Gives-more [] before _ line setting c.loop-line.invariant.2 next),
+      subst (GiveSettings [] (before ++ line ∷ [])) (sym c.in_ok-push.ensures.items) (Gives-more [] before _ line setting c.loop-line.invariant.2 next),
     )

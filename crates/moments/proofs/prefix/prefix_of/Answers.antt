@@ -1,7 +1,7 @@
 use Rattle.std.proofs.Common.{◌≡◌, ℕ, ◌+◌, length, ◌∙◌, ap, sym, arith}
 use Rattle.std.proofs.lemmas.List.{take_all}
 use Rattle.std.proofs.lemmas.List.Elements.{All-same}
-use Rattle.moments.specs.Prefix.{KeepsLimits}
+use Rattle.moments.specs.Prefix.{HasLimitedMoment}
 use Rattle.moments.proofs.PrefixLemmas.{first_moments, prefix_moments_are_first, moment_more, first_moments-more, limits_more, count_more}
 use Rattle.moments.proofs.prefix.prefix_of.Goals as goal
 
@@ -38,7 +38,7 @@ invariant_of-result c =
       js,
       record {
         few = c.requires;
-        limits = All-same KeepsLimits js _ all c.loop-body.invariant.limits;
+        limits = All-same HasLimitedMoment js _ all c.loop-body.invariant.limits;
         moments = c.loop-body.invariant.sums ∙ ap (λ (n : ℕ). first_moments js (n + 1)) done ∙ sym (prefix_moments_are_first js);
       },
     )

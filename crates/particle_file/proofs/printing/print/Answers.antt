@@ -5,7 +5,7 @@ use Rattle.std.specs.List.{flat_map}
 use Rattle.std.specs.Prelude.{codes}
 use Rattle.std.proofs.lemmas.Int.{to_z_pos}
 use Rattle.std.proofs.lemmas.List.{append-nil, take_all}
-use Rattle.particle_file.specs.Printing.{fields_of, particles_text}
+use Rattle.particle_file.specs.Printing.{number_fields, particles_text}
 use Rattle.text_lines.specs.Written.{written_line}
 use Rattle.particle_file.proofs.PrintingLemmas.{lines-more, particles_text-is}
 use Rattle.particle_file.proofs.printing.print.Goals as goal
@@ -28,14 +28,14 @@ loop-body-preserved c =
     let bodies = c.as_slice-bodies.result.now in
     let i = c.loop-body.body-index in
     let item = c.body-item.is in
-    c.in_ok-push_line.ensures ∙ ap (λ t. t ++ written_line (fields_of c.body-item.result)) c.loop-body.invariant
-    ∙ append_assoc (head (length bodies)) (flat_map (λ p. written_line (fields_of p)) (take i bodies)) (written_line (fields_of c.body-item.result))
-    ∙ ap (λ t. head (length bodies) ++ t) (ap (λ p. flat_map (λ p. written_line (fields_of p)) (take i bodies) ++ written_line (fields_of p)) item
+    c.in_ok-push_line.ensures ∙ ap (λ t. t ++ written_line (number_fields c.body-item.result)) c.loop-body.invariant
+    ∙ append_assoc (head (length bodies)) (flat_map (λ p. written_line (number_fields p)) (take i bodies)) (written_line (number_fields c.body-item.result))
+    ∙ ap (λ t. head (length bodies) ++ t) (ap (λ p. flat_map (λ p. written_line (number_fields p)) (take i bodies) ++ written_line (number_fields p)) item
     ∙ sym (lines-more bodies i c.body-item.result (omega arith)))
 
 pub returns : goal.returns
 returns c =
     let bodies = c.as_slice-bodies.result.now in
     let all = take_all c.loop-body.body-index bodies (omega arith) in
-    c.loop-body.invariant ∙ ap (λ ps. head (length bodies) ++ flat_map (λ p. written_line (fields_of p)) ps) all
+    c.loop-body.invariant ∙ ap (λ ps. head (length bodies) ++ flat_map (λ p. written_line (number_fields p)) ps) all
     ∙ particles_text-is bodies ∙ ap particles_text (c.as_slice-bodies.ensures.value ∙ c.particles.view_is)

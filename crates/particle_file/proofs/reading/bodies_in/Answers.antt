@@ -1,7 +1,7 @@
 use Rattle.std.proofs.Common.{◌≡◌, ◌-◌, inr, refl, sym, ap, ◌∙◌, arith}
 use Rattle.std.proofs.lemmas.Result.{err_from_is_err_and}
 use Rattle.particle_file.proofs.ReadSoFar.{IsNextParticle, nothing_read, one_more_read, stops_at_line, stops_at_id, stops_at_end, at_none}
-use Rattle.particle_file.specs.Reading.{particles_in}
+use Rattle.particle_file.specs.Reading.{particles_read}
 use Rattle.particle_file.proofs.reading.bodies_in.Goals as goal
 
 pub loop-init : goal.loop-init
@@ -47,7 +47,7 @@ returns-in_default-clause-err c =
 pub returns-clause-ok : goal.returns-clause-ok
 returns-clause-ok c =
     let none : c.args.due - c.loop.counter ≡ 0 = omega arith in
-    c.loop.invariant.so_far.goes_on ∙ ap (λ d. particles_in c.args.lines.now.count d c.loop.bodies.items c.loop.lines.ahead) none
+    c.loop.invariant.so_far.goes_on ∙ ap (λ d. particles_read c.args.lines.now.count d c.loop.bodies.items c.loop.lines.ahead) none
 
 pub returns-clause-bodies : goal.returns-clause-bodies
 returns-clause-bodies c = record { few = let many = c.loop.invariant.so_far.many in omega arith; distinct = c.loop.invariant.so_far.distinct }

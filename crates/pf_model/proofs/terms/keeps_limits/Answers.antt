@@ -1,7 +1,7 @@
 use Rattle.std.proofs.Common.{◌≡◌, ℕ, ◌<◌, ◌^◌, ℤ, List, length, sym, ◌∙◌, ap, subst}
 use Rattle.pf_geom.specs.Position.{Position, IsPosition}
 use Rattle.pf_model.specs.declared.body.Body.TheInside.{Inside}
-use Rattle.pf_model.specs.Particle.{Particle, IsWithinLimits, IsParticle}
+use Rattle.pf_model.specs.Particle.{Particle, HasParticleLimits, IsParticle}
 use Rattle.pf_model.proofs.terms.keeps_limits.Goals as goal
 
 pub returns : goal.returns
@@ -16,5 +16,5 @@ returns c =
       in_cube = subst IsPosition at c.body-inside.invariant;
       three = sym (ap length vel) ∙ c.body-inside.told.0;
       eight = sym (ap length attr) ∙ c.body-inside.told.1;
-      limits = subst (λ (p : Particle). IsWithinLimits p.vel p.mass p.attr) v c.body.invariant;
+      limits = subst (λ (p : Particle). HasParticleLimits p.vel p.mass p.attr) v c.body.invariant;
     }
