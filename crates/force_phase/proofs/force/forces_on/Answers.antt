@@ -1,0 +1,18 @@
+use Rattle.force_phase.proofs.RowLemmas.{forces_fit, forces_answer, stop_answer, pair_stops}
+use Rattle.force_phase.proofs.force.forces_on.Goals as goal
+
+pub row-requires-clause-few : goal.row-requires-clause-few
+row-requires-clause-few c =
+    rw c.forces.ensures (forces_fit c.args.t.now (c.parsed_kernels_keep_limits.ensures c.args.t.now c.kernel-kernel.ensures.parsed))
+
+pub returns-in-Ok-clause-ok : goal.returns-in-Ok-clause-ok
+returns-in-Ok-clause-ok c =
+    forces_answer c.args.edge c.args.t.now c.args.i.now c.args.partners.now c.gather_pairs.new.work.tallies.items c.in-Ok.ensures.no_fault c.in-Ok.ensures.gathered (λ v. v.items) c.row.result
+    (rw (c.forces.ensures, c.deref.ensures.value) at c.row.ensures.row) (rw (c.forces.ensures, c.deref.ensures.value) at c.row.ensures.no_fault)
+
+pub returns-in-Ok-clause-fault : goal.returns-in-Ok-clause-fault
+returns-in-Ok-clause-fault c =
+    stop_answer c.args.edge c.args.t.now c.args.i.now c.args.partners.now c.gather_pairs.new.work.tallies.items c.in-Ok.ensures.no_fault c.in-Ok.ensures.gathered c.row.result (rw (c.forces.ensures, c.deref.ensures.value) at c.row.ensures.fault)
+
+pub returns-in-Err-clause-fault : goal.returns-in-Err-clause-fault
+returns-in-Err-clause-fault c = λ entries are. pair_stops c.args.edge c.args.t.now c.args.i.now entries c.args.partners.now are c.in-Err.what c.in-Err.ensures.fault

@@ -1,0 +1,9 @@
+pub mod Tally
+pub mod Targets
+pub mod Partner
+pub mod Gathered
+pub mod Rows
+pub mod Stops
+pub mod Forces
+pub mod Found
+pub mod Phase

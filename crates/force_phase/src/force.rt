@@ -1,0 +1,134 @@
+ghost use Rattle.std.specs.Prelude.{◌≡◌, ◌≤◌, ◌^◌, ◌<◌, List, None, Some, OnOk, IfOk, IfErr, length, map};
+ghost use Rattle.pf_model.specs.declared.entry.Entry.{Entry as ListEntry};
+ghost use Rattle.kern_types.specs.Declarations.{forces_of};
+ghost use Rattle.run_model.specs.Force.{first_given, pair_fault};
+ghost use Rattle.force_phase.specs.Forces.{AreForces, StopsForces};
+ghost use Rattle.force_phase.specs.Gathered.{IsReady, each_with, with_pairs, nothing_yet as nothing_of};
+ghost use Rattle.force_phase.specs.Partner.{is_another, pairs_by, partner_of};
+
+use crate::gathered::{clear, gather, nothing_yet};
+use crate::partner::Partner;
+use crate::row::row;
+use crate::seen::{exerted, received};
+use crate::tally::Tally;
+use crate::targets::targets_of;
+use kern_meaning::{Scratch, for_kernel, pair};
+use kern_token::Name;
+use kern_tree::parsed_kernels_keep_limits;
+use kern_types::{Typed, forces, kernel, slots};
+use pf_geom::Edge;
+use pf_model::{Body, MOST_PARTICLES};
+use pf_num::OutOfMemory;
+use run_model::What;
+use std::alloc::{AllocError, Global};
+
+/// Why a particle has no forces.
+#[derive(Clone, Copy, Debug, PartialEq, Eq)]
+pub(crate) enum ForceStop {
+    /// The first fault of its pairs or of its sums.
+    Fault(What),
+    /// Memory ran out.
+    Memory,
+}
+
+impl From<AllocError> for ForceStop {
+    ghost use Rattle.std.specs.Prelude.{◌≡◌};
+    ghost use Rattle.force_phase.specs.declared.force.ForceStop.TheVariants.{Memory};
+
+    ghost from_gives = { λ _ stop. stop ≡ Memory };
+
+    fn from(_error: AllocError) -> ForceStop {
+        ForceStop::Memory
+    }
+}
+
+/// What is kept for the pairs of a kernel.
+#[derive(Drop)]
+pub(crate) struct Work {
+    pub(crate) scratch: Scratch,
+    pub(crate) targets: Vec<Name>,
+    pub(crate) tallies: Vec<Tally>,
+}
+
+impl Work {
+    /// Room for the pairs of a kernel.
+    pub(crate) fn for_kernel(alloc: Global, t: &Typed) -> Result<Work, OutOfMemory>
+        ensures { IfOk result (λ work. IsReady t.now work.scratch work.targets.items (length work.tallies.items)) }
+    {
+        Ok(Work {
+            scratch: for_kernel(alloc, t)?,
+            targets: targets_of(alloc, kernel(t).body.as_slice())?,
+            tallies: nothing_yet(alloc, forces(t))?,
+        })
+    }
+}
+
+/// The forces on a particle by its partners, which a list of entries has: the numbers of all FORCE
+/// variables, in order of declaration. `Fault` is the first pair that faults, by list place, or where
+/// none does the first FORCE variable whose sum isn't an `i64`.
+pub(crate) fn forces_on(
+    alloc: Global,
+    t: &Typed,
+    edge: Edge,
+    partners: &[Partner],
+    i: &Body,
+    work: &mut Work,
+) -> Result<Vec<i64>, ForceStop>
+    requires few { length partners.now ≤ MOST_PARTICLES }
+    requires ready { IsReady t.now work.old.scratch work.old.targets.items (length work.old.tallies.items) }
+    ensures ready { IsReady t.now work.new.scratch work.new.targets.items (length work.new.tallies.items) }
+    ensures ok { IfOk result (λ row. (entries : List ListEntry) → partners.now ≡ map partner_of entries
+        → AreForces edge t.now entries i.now row.items) }
+    ensures fault { IfErr result (λ stop. (entries : List ListEntry) → partners.now ≡ map partner_of entries
+        → StopsForces edge t.now entries i.now stop) }
+{
+    parsed_kernels_keep_limits();
+    let _kernel = kernel(t);
+    match gather_pairs(t, edge, partners, i, work) {
+        Ok(()) => row(alloc, forces(t), &work.tallies),
+        Err(what) => Err(ForceStop::Fault(what)),
+    }
+}
+
+// Adds up the pairs of a particle, or finds the first that faults.
+fn gather_pairs(
+    t: &Typed,
+    edge: Edge,
+    partners: &[Partner],
+    i: &Body,
+    work: &mut Work,
+) -> Result<(), What>
+    requires few { length partners.now ≤ MOST_PARTICLES }
+    requires ready { IsReady t.now work.old.scratch work.old.targets.items (length work.old.tallies.items) }
+    ensures ready { IsReady t.now work.new.scratch work.new.targets.items (length work.new.tallies.items) }
+    ensures no_fault { OnOk result (first_given pair_fault (pairs_by edge t.now i.now partners.now) ≡ None) }
+    ensures gathered { OnOk result (work.new.tallies.items
+        ≡ each_with (with_pairs t.now (pairs_by edge t.now i.now partners.now)) (forces_of t.now.decls)
+        (nothing_of (forces_of t.now.decls))) }
+    ensures fault { IfErr result (λ what. first_given pair_fault (pairs_by edge t.now i.now partners.now) ≡ Some what) }
+{
+    let received = received(edge, i);
+    clear(forces(t), &mut work.tallies);
+    for partner in partners {
+        if is_another(i.id, partner.id) {
+            let item = exerted(edge, i.at, &partner.item);
+            match pair(t, &received, &item, &mut work.scratch) {
+                Ok(()) => gather(
+                    forces(t),
+                    &work.targets,
+                    slots(t),
+                    &work.scratch,
+                    &mut work.tallies,
+                ),
+                Err(fault) => return Err(What::Pair(fault.kind, fault.statement)),
+            }
+        }
+    }
+    Ok(())
+}
+
+fn is_another(id: u32, own: Option<u32>) -> bool
+    ensures { result ≡ is_another id own }
+{
+    own != Some(id)
+}
