@@ -1,0 +1,6 @@
+use Rattle.rank_step.proofs.StepLemmas.{steps_on}
+use Rattle.rank_step.proofs.world.World.after.Goals as goal
+
+pub returns-clause-ok : goal.returns-clause-ok
+returns-clause-ok c u stands reaches =
+    steps_on c.lone_ranks_build_so.ensures _ c.args.self u c.deref.result.now c.args.taken.bodies.items c.args.taken.counts c.in_ok-text.text c.self.view_is c.deref.ensures.value c.in_ok-text.ensures stands reaches

@@ -1,0 +1,6 @@
+pub mod Build
+pub mod Answers
+pub mod Moves
+pub mod Taken
+pub mod Told
+pub mod World

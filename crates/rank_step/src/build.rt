@@ -1,0 +1,136 @@
+ghost use Rattle.std.specs.Prelude.{◌≡◌, ◌<◌, ◌≤◌, None, OnOk, IfOk, IfErr, length};
+ghost use Rattle.pf_model.specs.Particles.{AreBodies};
+ghost use Rattle.run_model.specs.Setup.{Setup};
+ghost use Rattle.run_model.specs.Run.{lists_fault};
+ghost use Rattle.run_model.specs.Text.{rank_counts};
+ghost use Rattle.rank_step.specs.Build.{BuildsBy, AreListsOf, IsTooMany, IsGatherOfAll};
+
+use crate::counts::counts_of;
+use crate::fault::StepFault;
+use group_lists::{Gather, Lists, MOST_ENTRIES};
+use morton_tree::Tree;
+use pf_model::{
+    Body, Build, Grid, MOST_GROUP, Steps, Terms, Theta, all_ranks_have_all, boxes_ignore_order,
+    groups_ignore_order, lone_ranks_have_all,
+};
+use pf_num::OutOfMemory;
+use run_model::{RankLine, lone_ranks_build_so};
+use std::alloc::Global;
+use std::marker::Brand;
+use std::sync::ledger::{Blank, Ledger};
+use std::thread::Threads;
+
+/// What a build gives one rank that has all particles.
+#[derive(Drop)]
+pub(crate) struct Built {
+    pub(crate) lists: Lists,
+    pub(crate) counts: RankLine,
+}
+
+/// The groups of these bodies with their lists, and what the text tells of them, unless the lists have more
+/// entries than the limit.
+pub(crate) fn build<R: Threads + Sync>(
+    rt: &R,
+    alloc: Global,
+    bodies: &[Body],
+    theta: Theta,
+    limit: u32,
+) -> Result<Built, StepFault>
+    requires bodies { AreBodies bodies.now }
+    requires some { 1 ≤ limit }
+    requires most { limit ≤ MOST_GROUP }
+    ensures lists { (u : Setup) → BuildsBy theta limit u → IfOk result (λ b. AreListsOf u bodies.now b.lists) }
+    ensures counts { (u : Setup) → BuildsBy theta limit u → IfOk result (λ b. b.counts ≡ rank_counts u bodies.now 0) }
+    ensures few { (u : Setup) → BuildsBy theta limit u → OnOk result (lists_fault u bodies.now ≡ None) }
+    ensures fault { (u : Setup) → BuildsBy theta limit u → IfErr result (IsTooMany u bodies.now) }
+{
+    let one_rank = Grid {
+        nx: 1,
+        ny: 1,
+        nz: 1,
+    };
+    let build = Build::of(bodies, one_rank, theta);
+    build_by::<R, Brand, Brand>(rt, alloc, build, limit, Blank::new(1))
+}
+
+// The same, in the terms of the build.
+fn build_by<R: Threads + Sync, T: Terms, L: Ledger>(
+    rt: &R,
+    alloc: Global,
+    build: Build<'_>,
+    limit: u32,
+    blank: Blank,
+) -> Result<Built, StepFault>
+    requires particles { T.particles ≡ build.bodies.now }
+    requires theta { T.theta ≡ build.theta }
+    requires one_rank { T.grid ≡ record { nx = 1; ny = 1; nz = 1 } }
+    requires some { 1 ≤ limit }
+    requires most { limit ≤ MOST_GROUP }
+    requires name { blank.name ≡ L.name }
+    requires parts { blank.parts ≡ L.parts }
+    requires share { 0 < L.parts }
+    ensures lists { (u : Setup) → BuildsBy T.theta limit u → IfOk result (λ b. AreListsOf u T.particles b.lists) }
+    ensures counts { (u : Setup) → BuildsBy T.theta limit u
+        → IfOk result (λ b. b.counts ≡ rank_counts u T.particles 0) }
+    ensures few { (u : Setup) → BuildsBy T.theta limit u → OnOk result (lists_fault u T.particles ≡ None) }
+    ensures fault { (u : Setup) → BuildsBy T.theta limit u → IfErr result (IsTooMany u T.particles) }
+{
+    let particles = build.bodies.len() as u32;
+    let gather = gather_all::<R, T, L>(rt, alloc, build.bodies, build.theta, limit, blank)?;
+    finish(alloc, particles, limit, gather)
+}
+
+// The gather of a rank that has all bodies.
+fn gather_all<R: Threads + Sync, T: Terms, L: Ledger>(
+    rt: &R,
+    alloc: Global,
+    bodies: &[Body],
+    theta: Theta,
+    limit: u32,
+    blank: Blank,
+) -> Result<Gather<T>, OutOfMemory>
+    requires particles { T.particles ≡ bodies.now }
+    requires theta { T.theta ≡ theta }
+    requires one_rank { T.grid ≡ record { nx = 1; ny = 1; nz = 1 } }
+    requires some { 1 ≤ limit }
+    requires most { limit ≤ MOST_GROUP }
+    requires name { blank.name ≡ L.name }
+    requires parts { blank.parts ≡ L.parts }
+    requires share { 0 < L.parts }
+    ensures { IfOk result (IsGatherOfAll limit T.particles) }
+{
+    lone_ranks_have_all();
+    let tree = Tree::build(rt, alloc, bodies.to_vec(alloc)?)?;
+    let groups = tree.groups(alloc, limit)?;
+    let mut steps = Steps::new(blank);
+    Gather::<T>::open::<L>(alloc, 0, 1, &tree, &groups, theta, &mut steps)
+}
+
+// The lists that were gathered of all particles, unless they have more entries than the limit.
+fn finish<T: Terms>(
+    alloc: Global,
+    particles: u32,
+    limit: u32,
+    gather: Gather<T>,
+) -> Result<Built, StepFault>
+    requires particles { particles ≡ length T.particles }
+    requires one_rank { T.grid ≡ record { nx = 1; ny = 1; nz = 1 } }
+    requires gathered { IsGatherOfAll limit T.particles gather }
+    ensures lists { (u : Setup) → BuildsBy T.theta limit u → IfOk result (λ b. AreListsOf u T.particles b.lists) }
+    ensures counts { (u : Setup) → BuildsBy T.theta limit u
+        → IfOk result (λ b. b.counts ≡ rank_counts u T.particles 0) }
+    ensures few { (u : Setup) → BuildsBy T.theta limit u → OnOk result (lists_fault u T.particles ≡ None) }
+    ensures fault { (u : Setup) → BuildsBy T.theta limit u → IfErr result (IsTooMany u T.particles) }
+{
+    lone_ranks_build_so();
+    all_ranks_have_all();
+    groups_ignore_order();
+    boxes_ignore_order();
+    let count = gather.count();
+    if count > MOST_ENTRIES {
+        return Err(StepFault::Lists(count));
+    }
+    let lists = gather.finish(alloc)?;
+    let counts = counts_of(particles, &lists);
+    Ok(Built { lists, counts })
+}

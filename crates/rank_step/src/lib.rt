@@ -1,0 +1,16 @@
+// The steps of a run: a world of all particles, and the world after the next step. It stands on the lists of
+// group_lists, the forces of force_phase and the moves of leapfrog.
+#![tactic(auto)]
+
+mod build;
+mod counts;
+mod fault;
+mod forced;
+mod forces;
+mod motion;
+mod moves;
+mod told;
+mod world;
+
+pub use fault::StepFault;
+pub use world::{StepReport, World, WorldSetup};

@@ -1,0 +1,219 @@
+ghost use Rattle.std.specs.Prelude.{◌≡◌, ◌≤◌, ◌^◌, ◌<◌, IfOk, IfErr, IsPermutation, ℕ, map};
+ghost use Rattle.std.specs.List.Sorted.{IsNonDecreasingBy};
+ghost use Rattle.pf_model.specs.Particles.{AreBodies};
+ghost use Rattle.run_model.specs.Setup.{Setup};
+ghost use Rattle.rank_step.specs.World.{IsStanding, StandsFor, Steps};
+ghost use Rattle.rank_step.specs.Taken.{without_forces};
+ghost use Rattle.rank_step.specs.Told.{Reaches};
+ghost use Rattle.rank_step.specs.Answers.{StopsBy};
+
+use crate::fault::StepFault;
+use crate::forced::Forced;
+use crate::forces::{Taken, build_and_take};
+use crate::motion::Motion;
+use crate::moves::{kick_again, moved};
+use crate::told::told;
+use kern_types::Typed;
+use pf_io::Gate;
+use pf_model::{Body, Grid, MOST_GROUP, Theta, distinct_ids_ignore_order, orders_by_id_are_one};
+use pf_num::OutOfMemory;
+use run_model::{Row, StepText, lone_ranks_build_so};
+use std::alloc::{AllocError, Global};
+use std::marker::Model;
+use std::thread::Threads;
+
+/// What a run begins with, beside its kernel.
+#[derive(Drop)]
+pub struct WorldSetup {
+    /// At most `MOST_PARTICLES`, of distinct ids, in any order.
+    pub bodies: Vec<Body>,
+    pub grid: Grid,
+    pub theta: Theta,
+    /// The most particles of a group, from 1 to `MOST_GROUP`.
+    pub group: u32,
+    /// The length of a step.
+    pub dt: u32,
+    /// The steps from a build to the next.
+    pub reuse: u32,
+}
+
+/// What a step tells.
+#[derive(Drop)]
+pub struct StepReport {
+    pub text: StepText,
+}
+
+/// All particles of a run, before its next step.
+#[derive(Drop)]
+pub struct World {
+    kernel: Typed,
+    theta: Theta,
+    group: u32,
+    dt: u32,
+    due: u32,
+    /// By ascending id.
+    bodies: Vec<Forced>,
+}
+
+impl Model for World {
+    ghost use Rattle.std.specs.Coded.{codes};
+    ghost use Rattle.kern_tree.specs.contracts.kernel.Kernel as kernel_type;
+    ghost use Rattle.rank_step.specs.World.{Standing, IsStanding};
+
+    ghost Value = { Standing };
+
+    ghost coded = { Prim.hlevel (codes, kernel_type.the_row.coded) };
+
+    ghost view = { λ w. record {
+      kernel = w.kernel;
+      theta = w.theta;
+      group = w.group;
+      dt = w.dt;
+      due = w.due;
+      bodies = w.bodies.items;
+    } };
+
+    ghost invariant = { λ w. IsStanding w.group w.bodies.items };
+}
+
+impl World {
+    /// The world of particles as they were read, before step 0. For now there is one rank, and every step
+    /// makes its lists anew.
+    pub fn open(alloc: Global, s: WorldSetup, t: Typed) -> Result<World, OutOfMemory>
+        requires particles { AreBodies s.bodies.items }
+        requires one_rank { s.grid ≡ record { nx = 1; ny = 1; nz = 1 } }
+        requires rebuilt { s.reuse ≡ 1 }
+        requires some { 1 ≤ s.group }
+        requires most { s.group ≤ MOST_GROUP }
+        ensures due { IfOk result (λ w. w.due ≡ 0) }
+        ensures stands { (steps : ℕ) → IfOk result (λ w. StandsFor w (record {
+          kernel = t;
+          particles = s.bodies.items;
+          grid = s.grid;
+          theta = s.theta;
+          group = s.group;
+          steps = steps;
+          dt = s.dt;
+          reuse = s.reuse;
+        })) }
+    {
+        distinct_ids_ignore_order();
+        orders_by_id_are_one();
+        let mut bodies = s.bodies;
+        sort_by_id(&mut bodies);
+        Ok(World {
+            kernel: t,
+            theta: s.theta,
+            group: s.group,
+            dt: s.dt,
+            due: 0,
+            bodies: without_forces(alloc, &bodies)?,
+        })
+    }
+
+    /// The next step, from 0: the world after it, and what it tells. `Numeric` and `Lists` exactly where
+    /// that is its first fault. After a refusal the world is gone. The workers and the gate serve none of it yet.
+    pub fn step<R: Threads + Sync, G: Gate>(
+        self,
+        rt: &R,
+        alloc: Global,
+        _workers: u32,
+        _gate: &G,
+    ) -> Result<(World, StepReport), StepFault>
+        requires { self.due < 2 ^ 31 }
+        ensures ok { IfOk result (λ r. (u : Setup) → StandsFor self u → Steps u self.due r.0 r.1.text) }
+        ensures fault { IfErr result (λ f. (u : Setup) → StandsFor self u → StopsBy u self.due f) }
+    {
+        let taken = self.taken(rt, alloc)?;
+        self.after(alloc, taken)
+    }
+
+    // The particles after the next step, with the forces on them.
+    fn taken<R: Threads + Sync>(&self, rt: &R, alloc: Global) -> Result<Taken, StepFault>
+        ensures standing { IfOk result (λ taken. IsStanding self.now.group taken.bodies.items) }
+        ensures ok { (u : Setup) → StandsFor self.now u
+            → IfOk result (λ taken. Reaches u self.now.due taken.bodies.items taken.counts) }
+        ensures fault { (u : Setup) → StandsFor self.now u → IfErr result (StopsBy u self.now.due) }
+    {
+        if self.due == 0 {
+            self.first(rt, alloc)
+        } else {
+            self.next(rt, alloc)
+        }
+    }
+
+    // Step 0: a build, and the forces.
+    fn first<R: Threads + Sync>(&self, rt: &R, alloc: Global) -> Result<Taken, StepFault>
+        requires { self.now.due ≡ 0 }
+        ensures standing { IfOk result (λ taken. IsStanding self.now.group taken.bodies.items) }
+        ensures ok { (u : Setup) → StandsFor self.now u
+            → IfOk result (λ taken. Reaches u 0 taken.bodies.items taken.counts) }
+        ensures fault { (u : Setup) → StandsFor self.now u → IfErr result (StopsBy u 0) }
+    {
+        let read = bodies_of(alloc, &self.bodies)?;
+        build_and_take(rt, alloc, &self.kernel, self.theta, self.group, &read)
+    }
+
+    // A step past 0: half a kick, a drift, a build, the forces, and half a kick.
+    fn next<R: Threads + Sync>(&self, rt: &R, alloc: Global) -> Result<Taken, StepFault>
+        requires { 1 ≤ self.now.due }
+        ensures standing { IfOk result (λ taken. IsStanding self.now.group taken.bodies.items) }
+        ensures ok { (u : Setup) → StandsFor self.now u
+            → IfOk result (λ taken. Reaches u self.now.due taken.bodies.items taken.counts) }
+        ensures fault { (u : Setup) → StandsFor self.now u → IfErr result (StopsBy u self.now.due) }
+    {
+        let motion = Motion::of(&self.kernel, self.theta, self.dt);
+        let now = moved(alloc, motion, &self.bodies)?;
+        let mut taken = build_and_take(rt, alloc, &self.kernel, self.theta, self.group, &now)?;
+        kick_again(motion, &mut taken.bodies)?;
+        Ok(taken)
+    }
+
+    // The world after the step, and what the step tells.
+    fn after(self, alloc: Global, taken: Taken) -> Result<(World, StepReport), StepFault>
+        requires few { self.due < 2 ^ 31 }
+        requires standing { IsStanding self.group taken.bodies.items }
+        ensures ok { IfOk result (λ r. (u : Setup) → StandsFor self u
+            → Reaches u self.due taken.bodies.items taken.counts → Steps u self.due r.0 r.1.text) }
+        ensures fault { IfErr result (λ f. f ≡ StepFault.Memory) }
+    {
+        lone_ranks_build_so();
+        let text = told(alloc, self.due, taken.counts, &taken.bodies)?;
+        let after = World {
+            kernel: self.kernel,
+            theta: self.theta,
+            group: self.group,
+            dt: self.dt,
+            due: self.due + 1,
+            bodies: taken.bodies,
+        };
+        Ok((after, StepReport { text }))
+    }
+}
+
+// Puts the particles into the order of their ids.
+fn sort_by_id(bodies: &mut [Body])
+    ensures same_bodies { IsPermutation bodies.old bodies.new }
+    ensures sorted { IsNonDecreasingBy (λ p. p.id) bodies.new }
+{
+    bodies.sort_unstable_by_key(|body| body.id);
+}
+
+fn without_forces(alloc: Global, bodies: &[Body]) -> Result<Vec<Forced>, AllocError>
+    ensures { IfOk result (λ forced. forced.items ≡ map without_forces bodies.now) }
+{
+    let mut forced = Vec::with_capacity(alloc, bodies.len())?;
+    for body in bodies {
+        forced.push(Forced {
+            body: *body,
+            forces: Row::from_vec(Vec::new(alloc)),
+        })?;
+    }
+    Ok(forced)
+}
+
+fn bodies_of(alloc: Global, bodies: &[Forced]) -> Result<Vec<Body>, AllocError>
+    ensures { IfOk result (λ alone. alone.items ≡ map (λ b. b.body) bodies.now) }
+{
+    bodies.iter().map(|forced| forced.body).collect(alloc)
+}
