@@ -2,14 +2,12 @@
 // status, all of which one verdict on the contents at entry decides. It stands on pf_io for its stores.
 #![tactic(auto)]
 
-mod command;
 mod input;
 mod output;
 mod speak;
 mod status;
 
-pub use command::{Command, conclude};
 pub use input::load;
-pub use output::{Next, Pieces, write};
+pub use output::Next;
 pub use speak::say_answer;
 pub use status::{Part, Status, StoreCall};

@@ -1,29 +1,13 @@
-// The program `fdps`: from the words of a command line to the dumps of a run.
-// It stands on pf_io for its files, and on pf_model for its particles.
+// The program `fdps`: it hands the words after its name to the top call, over the system's files, and ends with the
+// exit status of the answer.
 #![tactic(auto)]
 
-mod deck;
-mod dump;
-mod front;
-mod inputs;
-mod kernel;
-mod output;
-mod particles;
-mod said;
-mod status;
-#[cfg(test)]
-mod tests;
-mod top;
-mod words;
-
-use crate::said::code;
-use crate::status::Status;
-use crate::top::fdps;
 use pf_io::{FileStore, Open};
 use std::io::ErrorKind;
 use std::process::ExitCode;
 use std::rt::Env;
 use std::{env, io};
+use top_call::{Status, code, fdps};
 
 fn main(rt: HostRuntime) -> ExitCode {
     let alloc = rt.alloc();
@@ -36,7 +20,7 @@ fn main(rt: HostRuntime) -> ExitCode {
         Err(_) => Vec::new(alloc),
     };
     let mut store = FileStore::new(rt);
-    let status = fdps(alloc, &words, &mut store, &Open);
+    let status = fdps(&rt, alloc, &words, &mut store, &Open);
     ExitCode::from(code(&status))
 }
 

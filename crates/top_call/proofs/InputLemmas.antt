@@ -1,5 +1,5 @@
 -- The readings of decks and of particles that are refused, and the names of files.
-use Rattle.std.proofs.Common.{ℕ, zero, suc, ◌≡◌, ◌⊎◌, inl, inr, Bool, true, false, ◌&&◌, nat_le, length, List, [], ◌∷◌, Result, Ok, Err, MatchResult, IsOk, Bor, refl, sym, subst, arith}
+use Rattle.std.proofs.Common.{ℕ, zero, suc, ◌≡◌, ◌⊎◌, inl, inr, Bool, true, false, ◌&&◌, nat_le, length, List, [], ◌∷◌, Option, Some, None, Result, Ok, Err, MatchResult, IsOk, IfSome, Bor, refl, sym, subst, arith}
 use Rattle.std.specs.List.{list_all}
 use Rattle.std.specs.Str.{IsUtf8, IsAscii}
 use Rattle.std.proofs.lemmas.Bool.{leb-true}
@@ -14,8 +14,12 @@ use Rattle.particle_file.specs.declared.fault.PartFault.{PartFault}
 use Rattle.particle_file.specs.declared.fault.PartFault.TheVariants as particles
 use Rattle.particle_file.specs.Reading.{reading}
 use Rattle.pf_model.specs.Particle.{Particle}
-use Rattle.command_frame.specs.Reading.{Interprets}
+use Rattle.pf_io.specs.Store.{Told}
+use Rattle.command_frame.specs.Reading.{Answers, Interprets, IsItself, ReadsInput}
+use Rattle.command_frame.specs.Standing.{Standing}
+use Rattle.command_frame.specs.Verdict.{Within}
 use Rattle.command_frame.specs.declared.status.Status.{Status}
+use Rattle.command_frame.specs.declared.status.Status.TheVariants.{Refused}
 use Rattle.top_call.specs.declared.status.Refusal.{Refusal}
 use Rattle.top_call.specs.Inputs.{DeckMeans, ParticlesMean}
 use Rattle.top_call.specs.Refusals.{deck_refused, particles_refused}
@@ -69,3 +73,28 @@ pub is_text : {E : Type 0} (X : E → Type 0) (bytes : List ℕ) (r : Result (Bo
     → MatchResult r (λ s. (s.now ≡ bytes) × IsUtf8 bytes) (λ e. (¬ IsUtf8 bytes) × X e) → IsOk r
 is_text X bytes (Ok x) utf8 h = refl
 is_text X bytes (Err e) utf8 h = absurd (h.0 utf8)
+
+-- what is refused as too large is refused as this
+pub as_too_large : {X F : Type 0} (limit : ℕ) (large refusal : Refusal) (view : X → List ℕ) (name : List ℕ) (old new : Standing)
+    → ReadsInput {F = F} (Within limit large IsItself) view name (Err (Refused refusal)) old new → ReadsInput {F = F} (Within limit large IsItself) view name (Err (Refused large)) old new
+as_too_large {X} {F} limit large refusal view name old new read = record {
+  ends = tt;
+  kept = read.kept;
+  answers = told old.told read.answers;
+  counts = read.counts;
+  stays_steady = read.stays_steady;
+  steady = λ is call e. cc;
+} where
+  Fits : List ℕ → Result (List ℕ) Refusal → Type 0
+  Fits = Within limit large IsItself
+
+  fits : (text : List ℕ) → Fits text (Err refusal) → Fits text (Err large)
+  fits text h = elim h [ inl e ↦ (let no = e.1 in cc) | inr e ↦ inr (e.0, refl) ]
+
+  there : (o : Option (List ℕ)) → Answers {F = F} Fits view o (Err (Refused refusal)) → Answers {F = F} Fits view o (Err (Refused large))
+  there None h = h
+  there (Some text) h = fits text h
+
+  told : (o : Option Told) → IfSome o (λ t. Answers {F = F} Fits view (t.files name) (Err (Refused refusal))) → IfSome o (λ t. Answers {F = F} Fits view (t.files name) (Err (Refused large)))
+  told None h = tt
+  told (Some t) h = there (t.files name) h

@@ -1,5 +1,5 @@
 -- The steps of a run, as a command.
-use Rattle.std.proofs.Common.{ℕ, ◌≡◌, List, Bool, true, false, Option, Some, None, option_map, nat_eq, if◌then◌else◌, refl, sym, ap, subst, ◌∙◌}
+use Rattle.std.proofs.Common.{ℕ, ◌≡◌, List, Bool, true, false, Option, Some, None, option_map, Result, Err, nat_eq, if◌then◌else◌, refl, sym, ap, subst, ◌∙◌}
 use Rattle.std.specs.List.{concat}
 use Rattle.pf_io.specs.Store.{Files}
 use Rattle.deck_file.specs.declared.deck.Deck.{Deck}
@@ -8,30 +8,25 @@ use Rattle.run_model.specs.Setup.{Setup}
 use Rattle.command_frame.specs.Effects.{CarriesOut}
 use Rattle.command_frame.specs.Standing.{Standing}
 use Rattle.command_frame.specs.Status.{EndsReading, EndsWriting}
-use Rattle.command_frame.specs.Verdict.{Verdict, stops, writes, Unless}
+use Rattle.command_frame.specs.Reading.{ReadsInput}
+use Rattle.command_frame.specs.Verdict.{After, Verdict, stops, writes, Unless}
 use Rattle.command_frame.specs.declared.status.Part.{Part}
 use Rattle.command_frame.specs.declared.status.Part.TheVariants as parts
 use Rattle.command_frame.specs.declared.status.Status.TheVariants.{Done, Usage, Refused, Numeric, Lists, NotBuilt, StoreFault, Memory}
 use Rattle.command_frame.specs.declared.status.StoreCall.TheVariants.{Open, Read, Create, Write, Say}
-use Rattle.command_frame.proofs.StepLaws.{carried_as_more, carried_at_once}
+use Rattle.command_frame.proofs.StepLaws.{carried_as_more, carried_at_once, stops_after}
 use Rattle.top_call.specs.declared.status.Refusal.{Refusal}
 use Rattle.top_call.specs.Run.{Ending, EndsRun, WithBuiltDeck, WithDeck, is_one_rank, last_status, run_verdict, unbuilt}
 use Rattle.top_call.specs.Steps.{coming, texts_from}
 use Rattle.top_call.proofs.DumpLemmas.{all_texts}
 
-pub reading_ends_run : (status : Ending) → EndsReading status → EndsRun status
-reading_ends_run Done h = absurd h
-reading_ends_run Usage h = absurd h
-reading_ends_run (Refused refusal) h = tt
-reading_ends_run (Numeric step fault) h = absurd h
-reading_ends_run (Lists step count) h = absurd h
-reading_ends_run (NotBuilt part) h = absurd h
-reading_ends_run (StoreFault Open) h = tt
-reading_ends_run (StoreFault Read) h = tt
-reading_ends_run (StoreFault Create) h = absurd h
-reading_ends_run (StoreFault Write) h = absurd h
-reading_ends_run (StoreFault Say) h = absurd h
-reading_ends_run Memory h = tt
+-- the reading of an input ends a run
+pub stops_run : {X A : Type 0} (Means : List ℕ → Result A Refusal → Type 0) (view : X → A) (name : List ℕ) (next : Files → A → Verdict Refusal Fault → Type 0)
+    (answer : Result X Ending) (status : Ending) (old new : Standing) → EndsRun status → answer ≡ Err status → ReadsInput Means view name answer old new
+    → CarriesOut EndsRun (λ files. After Means files name (next files)) status old new
+stops_run {X} {A} Means view name next answer status old new ends is read =
+    let h = stops_after EndsReading Means view name next answer status old new (λ s may. may) is read in
+    record { ends = ends; left = h.left; counts = h.counts; stays_steady = h.stays_steady; steady = h.steady }
 
 pub writing_ends_run : (status : Ending) → EndsWriting status → EndsRun status
 writing_ends_run Done h = tt

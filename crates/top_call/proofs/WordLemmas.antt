@@ -1,14 +1,21 @@
 -- What the words ask for, carried out.
-use Rattle.std.proofs.Common.{ℕ, ◌≡◌, ◌⊎◌, inl, inr, List, Option, Some, None, refl, subst}
+use Rattle.std.proofs.Common.{ℕ, ◌≡◌, ◌⊎◌, inl, inr, Bool, true, false, ◌&&◌, nat_le, if◌then◌else◌, List, [], ◌∷◌, codes, Option, Some, None, option_and_then, refl, sym, subst, arith}
+use Rattle.std.specs.Option.{option_map_or}
+use Rattle.std.specs.Str.{bytes_eq}
+use Rattle.std.proofs.lemmas.Bool.{leb-true}
+use Rattle.clap.specs.Words.{Row, first_of}
 use Rattle.command_line.specs.declared.command.Command.{Command}
 use Rattle.command_line.specs.declared.command.Command.TheVariants as commands
-use Rattle.command_line.specs.Words.{command_of}
+use Rattle.command_line.specs.Form.{given}
+use Rattle.command_line.specs.Number.{numeral_value, number_within, within}
+use Rattle.command_line.specs.Options.{with_three, with_two}
+use Rattle.command_line.specs.Words.{bench_form, bench_in, command_of, given_by, run_form, run_in, workers_in}
 use Rattle.command_frame.specs.Effects.{CarriesOut}
 use Rattle.command_frame.specs.Standing.{Standing}
 use Rattle.command_frame.specs.declared.status.Part.TheVariants as parts
 use Rattle.command_frame.specs.declared.status.Status.TheVariants.{Usage, NotBuilt, Memory}
 use Rattle.command_frame.proofs.StepLaws.{carried_at_once}
-use Rattle.top_call.specs.Run.{Ending, EndsCommand, EndsRun, EndsWords, CommandMeans, RunMeans, WordsMean}
+use Rattle.top_call.specs.Run.{AreWorkers, Ending, EndsCommand, EndsRun, EndsWords, CommandMeans, RunMeans, WordsMean}
 
 -- a command of these words
 as_words : (words : List (List ℕ)) (command : Option (Command (List ℕ))) (status : Ending) (old new : Standing) → command ≡ command_of words
@@ -57,3 +64,66 @@ only_none (Some (commands.Bench count seed workers)) result h is = elim h [ inl 
 
 pub usage_only : (words : List (List ℕ)) (result : Ending) → (result ≡ Memory) ⊎ EndsWords words result → result ≡ Usage → command_of words ≡ None
 usage_only words result h is = only_none (command_of words) result h is
+
+-- the number of workers is one of those that the words may give
+
+both : (a b : Bool) → (a && b) ≡ true → (a ≡ true) × (b ≡ true)
+both true true h = (refl, refl)
+both true false h = cc
+both false b h = cc
+
+picked : (b : Bool) (n count : ℕ) → (if b then Some n else None) ≡ Some count → (b ≡ true) × (n ≡ count)
+picked true n count h = (refl, cc)
+picked false n count h = cc
+
+within_range : (n count : ℕ) → within 1 64 n ≡ Some count → AreWorkers count
+within_range n count h =
+    let is = picked (nat_le 1 n && nat_le n 64) n count h in
+    let ranges = both (nat_le 1 n) (nat_le n 64) is.0 in
+    let some = leb-true 1 n ranges.0 in
+    let most = leb-true n 64 ranges.1 in
+    let same = is.1 in
+    record { some = omega arith; most = omega arith }
+
+of_number : (o : Option ℕ) (count : ℕ) → option_and_then (within 1 64) o ≡ Some count → AreWorkers count
+of_number None count h = cc
+of_number (Some n) count h = within_range n count h
+
+of_value : (o : Option (List ℕ)) (count : ℕ) → option_map_or (number_within 1 64) o (Some 1) ≡ Some count → AreWorkers count
+of_value None count h = let one : 1 ≡ count = cc in record { some = omega arith; most = omega arith }
+of_value (Some word) count h = of_number (numeral_value word) count h
+
+second_of : (a : Option (List ℕ)) (b : Option ℕ) (name : List ℕ) (count : ℕ) → with_two commands.Run a b ≡ Some (commands.Run name count) → b ≡ Some count
+second_of None b name count h = cc
+second_of (Some a) None name count h = cc
+second_of (Some a) (Some b) name count h = cc
+
+no_run : (a b c : Option ℕ) (name : List ℕ) (count : ℕ) → with_three commands.Bench a b c ≡ Some (commands.Run name count) → ⊥
+no_run None b c name count h = cc
+no_run (Some a) None c name count h = cc
+no_run (Some a) (Some b) None name count h = cc
+no_run (Some a) (Some b) (Some c) name count h = cc
+
+run_given : (rows : Option (List Row)) (name : List ℕ) (count : ℕ) → option_and_then run_in rows ≡ Some (commands.Run name count) → AreWorkers count
+run_given None name count h = cc
+run_given (Some rows) name count h =
+    of_value (first_of (codes "workers") rows) count (second_of (first_of (codes "deck") rows) (workers_in rows) name count h)
+
+bench_given : (rows : Option (List Row)) (name : List ℕ) (count : ℕ) → option_and_then bench_in rows ≡ Some (commands.Run name count) → ⊥
+bench_given None name count h = cc
+bench_given (Some rows) name count h = no_run _ _ _ name count h
+
+named : (a b : Bool) (run bench : Option (Command (List ℕ))) (command : Command (List ℕ)) → (if a then run else (if b then bench else None)) ≡ Some command
+    → (run ≡ Some command) ⊎ (bench ≡ Some command)
+named true b run bench command h = inl h
+named false true run bench command h = inr h
+named false false run bench command h = cc
+
+pub workers_of_words : (words : List (List ℕ)) (name : List ℕ) (count : ℕ) → Some (commands.Run name count) ≡ command_of words → AreWorkers count
+unfolding command_of
+workers_of_words [] name count e = cc
+workers_of_words (first ∷ words) name count e =
+    elim (named (bytes_eq first (codes "run")) (bytes_eq first (codes "bench")) (given_by run_form run_in words) (given_by bench_form bench_in words) (commands.Run name count) (sym e)) [
+      | inl run ↦ run_given (given run_form words) name count run
+      | inr bench ↦ absurd (bench_given (given bench_form words) name count bench)
+    ]

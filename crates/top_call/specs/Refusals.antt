@@ -1,4 +1,5 @@
 -- The status of a reader's fault: a refusal, but for want of memory, which is the command's.
+use Rattle.std.specs.Prelude.{◌≢◌}
 use Rattle.kern_token.specs.declared.fault.KernFault.{KernFault}
 use Rattle.kern_token.specs.declared.fault.KernFault.TheVariants as kernel_faults
 use Rattle.kern_types.specs.declared.fault.TypeFault.{TypeFault}
@@ -11,6 +12,16 @@ use Rattle.command_frame.specs.declared.status.Status.{Status}
 use Rattle.command_frame.specs.declared.status.Status.TheVariants.{Refused, Memory}
 use Rattle.top_call.specs.declared.status.Refusal.{Refusal}
 use Rattle.top_call.specs.declared.status.Refusal.TheVariants as refusals
+
+-- a refusal names a fault of its input
+abbrev pub IsNoMemory : Refusal → Type 0
+IsNoMemory refusals.DeckTooLarge = Unit {0}
+IsNoMemory (refusals.Deck fault) = fault ≢ deck_faults.Memory
+IsNoMemory refusals.KernelTooLarge = Unit {0}
+IsNoMemory (refusals.Kernel fault) = fault ≢ kernel_faults.Memory
+IsNoMemory (refusals.Types fault) = fault ≢ type_faults.Memory
+IsNoMemory refusals.ParticlesTooLarge = Unit {0}
+IsNoMemory (refusals.Particles fault) = fault ≢ particle_faults.Memory
 
 abbrev pub deck_refused : {F : Type 0} → DeckFault → Status Refusal F
 deck_refused deck_faults.Memory = Memory

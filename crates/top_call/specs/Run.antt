@@ -1,5 +1,5 @@
 -- What the words of the program mean on the contents at entry.
-use Rattle.std.specs.Prelude.{ℕ, suc, ◌≡◌, ◌⊎◌, ◌&&◌, Bool, List, Option, Some, None, option_map, nat_eq, if◌then◌else◌}
+use Rattle.std.specs.Prelude.{ℕ, suc, ◌≡◌, ◌≤◌, ◌⊎◌, ◌&&◌, Bool, List, Option, Some, None, option_map, nat_eq, if◌then◌else◌}
 use Rattle.pf_io.specs.Store.{Files}
 use Rattle.pf_model.specs.Particle.{Particle}
 use Rattle.pf_model.specs.Division.{Division}
@@ -21,6 +21,7 @@ use Rattle.command_frame.specs.declared.status.Status.TheVariants.{Done, Usage, 
 use Rattle.command_frame.specs.declared.status.Status.TheVariants.{StoreFault, Memory}
 use Rattle.command_frame.specs.declared.status.StoreCall.TheVariants.{Open, Read, Create, Write, Say}
 use Rattle.top_call.specs.declared.status.Refusal.{Refusal}
+use Rattle.top_call.specs.Refusals.{IsNoMemory}
 use Rattle.top_call.specs.Inputs.{DeckFileMeans, KernelFileMeans, ParticleFileMeans}
 
 abbrev pub Ending : Type 0
@@ -89,6 +90,11 @@ WithDeck deck files verdict = Unless (option_map NotBuilt (unbuilt deck)) (WithB
 abbrev pub RunMeans : List ℕ → Files → Verdict Refusal Fault → Type 0
 RunMeans name files verdict = After DeckFileMeans files name (λ deck. WithDeck deck files) verdict
 
+-- so many workers may share the work of a run
+pub record AreWorkers (count : ℕ) : Type 0 where
+  pub some : 1 ≤ count
+  pub most : count ≤ 64
+
 -- each command
 abbrev pub CommandMeans : Option (Command (List ℕ)) → Files → Verdict Refusal Fault → Type 0
 CommandMeans None files verdict = verdict ≡ stops Usage
@@ -99,11 +105,11 @@ CommandMeans (Some (commands.Bench count seed workers)) files verdict = verdict 
 abbrev pub WordsMean : List (List ℕ) → Files → Verdict Refusal Fault → Type 0
 WordsMean words files verdict = CommandMeans (command_of words) files verdict
 
--- the statuses that a run may end with
+-- the statuses that a run may end with: want of memory is a status of its own, and no refusal
 abbrev pub EndsRun : Ending → Type 0
 EndsRun Done = Unit {0}
 EndsRun Usage = ⊥
-EndsRun (Refused refusal) = Unit {0}
+EndsRun (Refused refusal) = IsNoMemory refusal
 EndsRun (Numeric step fault) = Unit {0}
 EndsRun (Lists step count) = Unit {0}
 EndsRun (NotBuilt parts.Bench) = ⊥

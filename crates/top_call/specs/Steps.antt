@@ -5,21 +5,21 @@ use Rattle.run_model.specs.Setup.{Setup}
 use Rattle.run_model.specs.Run.{Stop, first_fault}
 use Rattle.run_model.specs.Run as stop
 use Rattle.run_model.specs.Text.{text}
-use Rattle.top_call.specs.declared.world.StepFault.{StepFault}
-use Rattle.top_call.specs.declared.world.StepFault.TheVariants as faults
+use Rattle.rank_step.specs.World.{Standing, StandsFor}
+use Rattle.rank_step.specs.declared.fault.StepFault.{StepFault}
+use Rattle.rank_step.specs.declared.fault.StepFault.TheVariants as faults
 use Rattle.command_frame.specs.declared.status.Status.TheVariants.{Memory}
 use Rattle.deck_file.specs.declared.limits.TheConstants.{MOST_STEPS}
 use Rattle.pf_geom.specs.declared.edge.Edge.TheVariants.{Open}
 use Rattle.top_call.specs.Run.{Ending, last_status, step_count}
 
 -- a step has no fault and this text, and leads to a world that stands for the state after it; or it has this fault
-abbrev pub TakesStep : {W V : Type 0} → (W → ℕ) → (W → Setup → Type 0) → (V → List ℕ) → Setup → ℕ
-    → Result (W × V) StepFault → Type 0
-TakesStep due StandsFor bytes run step (Ok p) =
-    (first_fault run step ≡ None) × (bytes p.1 ≡ text run step) × StandsFor p.0 run × (due p.0 ≡ suc step)
-TakesStep due StandsFor bytes run step (Err (faults.Numeric fault)) = first_fault run step ≡ Some (stop.Numeric fault)
-TakesStep due StandsFor bytes run step (Err (faults.Lists count)) = first_fault run step ≡ Some (stop.Lists count)
-TakesStep due StandsFor bytes run step (Err faults.Memory) = Unit {0}
+abbrev pub TakesStep : {V : Type 0} → (V → List ℕ) → Setup → ℕ → Result (Standing × V) StepFault → Type 0
+TakesStep bytes run step (Ok p) =
+    (first_fault run step ≡ None) × (bytes p.1 ≡ text run step) × StandsFor p.0 run × (p.0.due ≡ suc step)
+TakesStep bytes run step (Err (faults.Numeric fault)) = first_fault run step ≡ Some (stop.Numeric fault)
+TakesStep bytes run step (Err (faults.Lists count)) = first_fault run step ≡ Some (stop.Lists count)
+TakesStep bytes run step (Err faults.Memory) = Unit {0}
 
 -- the texts of the steps from this one on
 abbrev pub texts_from : Setup → ℕ → List (List ℕ)

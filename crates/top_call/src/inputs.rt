@@ -1,13 +1,15 @@
-ghost use Rattle.std.specs.Prelude.{◌≡◌, ◌≤◌, ◌^◌, length, true, IfOk};
+ghost use Rattle.std.specs.Prelude.{◌≡◌, ◌≤◌, ◌^◌, length, true, IfErr, IfOk};
 ghost use Rattle.kern_token.specs.declared.limits.TheConstants.{MOST_TEXT};
 ghost use Rattle.deck_file.specs.Laws.{IsWithinLimits};
 ghost use Rattle.deck_file.specs.Values.{is_name};
-ghost use Rattle.command_frame.specs.Reading.{Interprets, ReadsInput};
+ghost use Rattle.command_frame.specs.Reading.{Interprets, IsItself, ReadsInput};
 ghost use Rattle.command_frame.specs.Standing.{standing};
 ghost use Rattle.command_frame.specs.Status.{HasRoom};
+ghost use Rattle.command_frame.specs.Verdict.{Within};
 ghost use Rattle.top_call.specs.Inputs.{DeckFileMeans, DeckMeans, KernelFileMeans, KernelMeans};
 ghost use Rattle.top_call.specs.Inputs.{ParticleFileMeans, ParticlesMean};
-ghost use Rattle.top_call.specs.Refusals.{deck_refused, kernel_refused, particles_refused, types_refused};
+ghost use Rattle.top_call.specs.Run.{EndsRun};
+ghost use Rattle.top_call.specs.Refusals.{IsNoMemory, deck_refused, kernel_refused, particles_refused, types_refused};
 
 use crate::status::{Refusal, Status};
 use command_frame::load;
@@ -23,6 +25,32 @@ use std::str;
 // The most bytes of a particle file.
 const MOST_PARTICLE_BYTES: usize = 1 << 24;
 
+// The text of the file of this name. One of more than `limit` bytes is refused as `too_large`.
+fn text_of<S: Store>(
+    alloc: Global,
+    store: &mut S,
+    name: &str,
+    limit: usize,
+    too_large: Refusal,
+) -> Result<Vec<u8>, Status>
+    requires limit { limit ≤ 2 ^ 28 }
+    requires room { HasRoom (S.faults store.old) }
+    requires no_memory { IsNoMemory too_large }
+
+    ensures reads { ReadsInput (Within limit too_large IsItself) (λ v. v.items) name.now result
+        (standing (S.told store.old) (S.faults store.old) (S.is_steady store.old))
+        (standing (S.told store.new) (S.faults store.new) (S.is_steady store.new)) }
+    ensures within { IfOk result (λ v. length v.items ≤ limit) }
+    ensures ends { IfErr result EndsRun }
+{
+    match load(alloc, store, name, limit, too_large) {
+        Ok(text) => Ok(text),
+        // The same refusal, which `load` states only of a store that tells its contents.
+        Err(Status::Refused(_)) => Err(Status::Refused(too_large)),
+        Err(status) => Err(status),
+    }
+}
+
 /// The deck in the file of this name.
 pub(crate) fn read_deck<S: Store>(alloc: Global, store: &mut S, name: &str) -> Result<Deck, Status>
     requires { HasRoom (S.faults store.old) }
@@ -30,8 +58,9 @@ pub(crate) fn read_deck<S: Store>(alloc: Global, store: &mut S, name: &str) -> R
         (standing (S.told store.old) (S.faults store.old) (S.is_steady store.old))
         (standing (S.told store.new) (S.faults store.new) (S.is_steady store.new)) }
     ensures within { IfOk result IsWithinLimits }
+    ensures ends { IfErr result EndsRun }
 {
-    let text = load(alloc, store, name, MOST_TEXT, Refusal::DeckTooLarge)?;
+    let text = text_of(alloc, store, name, MOST_TEXT, Refusal::DeckTooLarge)?;
     deck_in(alloc, &text)
 }
 
@@ -40,6 +69,7 @@ fn deck_in(alloc: Global, text: &[u8]) -> Result<Deck, Status>
     requires { length text.now ≤ MOST_TEXT }
     ensures interprets { Interprets DeckMeans (λ deck. deck) text.now result }
     ensures within { IfOk result IsWithinLimits }
+    ensures ends { IfErr result EndsRun }
 {
     decks_keep_their_limits();
     match deck_file::read(alloc, text) {
@@ -63,18 +93,20 @@ pub(crate) fn read_kernel<S: Store>(
     name: &str,
 ) -> Result<Typed, Status>
     requires { HasRoom (S.faults store.old) }
-    ensures { ReadsInput KernelFileMeans (λ kernel. kernel) name.now result
+    ensures reads { ReadsInput KernelFileMeans (λ kernel. kernel) name.now result
         (standing (S.told store.old) (S.faults store.old) (S.is_steady store.old))
         (standing (S.told store.new) (S.faults store.new) (S.is_steady store.new)) }
+    ensures ends { IfErr result EndsRun }
 {
-    let text = load(alloc, store, name, MOST_TEXT, Refusal::KernelTooLarge)?;
+    let text = text_of(alloc, store, name, MOST_TEXT, Refusal::KernelTooLarge)?;
     kernel_in(alloc, &text)
 }
 
 // The kernel that a text spells and that is well typed.
 fn kernel_in(alloc: Global, text: &[u8]) -> Result<Typed, Status>
     requires { length text.now ≤ MOST_TEXT }
-    ensures { Interprets KernelMeans (λ kernel. kernel) text.now result }
+    ensures interprets { Interprets KernelMeans (λ kernel. kernel) text.now result }
+    ensures ends { IfErr result EndsRun }
 {
     let tokens = tokens(alloc, text).map_err(kernel_refused)?;
     let kernel = parse(alloc, &tokens).map_err(kernel_refused)?;
@@ -91,11 +123,12 @@ pub(crate) fn read_particles<S: Store>(
     name: &str,
 ) -> Result<Particles, Status>
     requires { HasRoom (S.faults store.old) }
-    ensures { ReadsInput ParticleFileMeans (λ particles. particles) name.now result
+    ensures reads { ReadsInput ParticleFileMeans (λ particles. particles) name.now result
         (standing (S.told store.old) (S.faults store.old) (S.is_steady store.old))
         (standing (S.told store.new) (S.faults store.new) (S.is_steady store.new)) }
+    ensures ends { IfErr result EndsRun }
 {
-    let text = load(
+    let text = text_of(
         alloc,
         store,
         name,
@@ -108,7 +141,8 @@ pub(crate) fn read_particles<S: Store>(
 // The particles that a text spells.
 fn particles_in(alloc: Global, text: &[u8]) -> Result<Particles, Status>
     requires { length text.now ≤ 2 ^ 24 }
-    ensures { Interprets ParticlesMean (λ particles. particles) text.now result }
+    ensures interprets { Interprets ParticlesMean (λ particles. particles) text.now result }
+    ensures ends { IfErr result EndsRun }
 {
     match particle_file::read(alloc, text) {
         Ok(particles) => Ok(particles),
@@ -119,7 +153,8 @@ fn particles_in(alloc: Global, text: &[u8]) -> Result<Particles, Status>
 // Want of memory is the command's own; any other fault refuses the input.
 
 fn deck_refused(fault: DeckFault) -> Status
-    ensures { result ≡ deck_refused fault }
+    ensures status { result ≡ deck_refused fault }
+    ensures ends { EndsRun result }
 {
     match fault {
         DeckFault::Memory => Status::Memory,
@@ -128,7 +163,8 @@ fn deck_refused(fault: DeckFault) -> Status
 }
 
 fn kernel_refused(fault: KernFault) -> Status
-    ensures { result ≡ kernel_refused fault }
+    ensures status { result ≡ kernel_refused fault }
+    ensures ends { EndsRun result }
 {
     match fault {
         KernFault::Memory => Status::Memory,
@@ -137,7 +173,8 @@ fn kernel_refused(fault: KernFault) -> Status
 }
 
 fn types_refused(fault: TypeFault) -> Status
-    ensures { result ≡ types_refused fault }
+    ensures status { result ≡ types_refused fault }
+    ensures ends { EndsRun result }
 {
     match fault {
         TypeFault::Memory => Status::Memory,
@@ -146,7 +183,8 @@ fn types_refused(fault: TypeFault) -> Status
 }
 
 fn particles_refused(fault: PartFault) -> Status
-    ensures { result ≡ particles_refused fault }
+    ensures status { result ≡ particles_refused fault }
+    ensures ends { EndsRun result }
 {
     match fault {
         PartFault::Memory => Status::Memory,

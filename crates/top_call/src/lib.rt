@@ -1,5 +1,5 @@
 // The top call: from the words of a command line to the status that ends the program. It stands on the readers of
-// decks, kernels and particles, on the definition of a run, and on the frame of commands.
+// decks, kernels and particles, on the steps of a run and their texts, and on the frame of commands.
 #![tactic(auto)]
 
 mod dumps;
@@ -8,9 +8,9 @@ mod run;
 mod said;
 mod status;
 mod top;
+mod workers;
 mod world;
 
 pub use said::said_line;
 pub use status::{Refusal, Status, code};
 pub use top::{fdps, one_verdict};
-pub use world::{StepFault, World};

@@ -1,6 +1,7 @@
-ghost use Rattle.std.specs.Prelude.{◌≡◌, ◌⊎◌, None, map};
+ghost use Rattle.std.specs.Prelude.{◌≡◌, ◌-◌, ◌<◌, ◌^◌, ◌⊎◌, None, map};
 ghost use Rattle.command_line.specs.Words.{command_of};
 ghost use Rattle.command_frame.specs.Clauses.{Concludes};
+ghost use Rattle.command_frame.specs.Effects.{CarriesOut, SaysLine};
 ghost use Rattle.command_frame.specs.Standing.{standing};
 ghost use Rattle.command_frame.specs.Status.{HasRoom};
 ghost use Rattle.command_frame.specs.declared.status.Status.TheVariants.{Memory, Usage};
@@ -9,52 +10,24 @@ ghost use Rattle.top_call.specs.Said.{line_of};
 
 use crate::run::run;
 use crate::said::said_line;
-use crate::status::{Refusal, Status};
-use crate::world::World;
-use command_frame::{Part, conclude};
+use crate::status::Status;
+use crate::workers::Workers;
+use command_frame::Part;
 use command_line::Command;
-use pf_io::{Gate, Store};
+use pf_io::{Gate, Store, StoreErr};
 use pf_num::OutOfMemory;
-use run_model::Fault;
 use std::alloc::Global;
 use std::convert::AsStr;
-use std::marker::PhantomData;
+use std::thread::Threads;
 
-/// What the words after the program's name ask for, in a world `L`.
-#[derive(Drop)]
-struct CommandLine<'a, W: AsStr, L: World> {
-    words: &'a [W],
-    world: PhantomData<L>,
-}
-
-impl<W: AsStr, L: World> command_frame::Command<Refusal, Fault> for CommandLine<'_, W, L> {
-    ghost may_end = { λ line. EndsWords (map W.text line.words.now) };
-
-    ghost means = { λ line. WordsMean (map W.text line.words.now) };
-
-    ghost line_of = { line_of };
-
-    fn carry_out<S: Store>(&self, alloc: Global, store: &mut S) -> Status {
-        match command_line::read(alloc, self.words) {
-            Ok(Some(Command::Run(deck, _))) => run::<L, S>(alloc, store, deck),
-            Ok(Some(Command::Bench(_, _, _))) => Status::NotBuilt(Part::Bench),
-            Ok(None) => Status::Usage,
-            Err(OutOfMemory) => Status::Memory,
-        }
-    }
-
-    fn line(alloc: Global, status: &Status) -> Result<Vec<u8>, OutOfMemory> {
-        said_line(alloc, status)
-    }
-}
-
-/// Runs the command that the words after the program's name ask for, in a world `L`. Its files are those of the
-/// store. What ended it otherwise than done is said in one line.
-pub fn fdps<L: World, W: AsStr, S: Store, G: Gate>(
+/// Runs the command that the words after the program's name ask for. Its files are those of the store, and each
+/// worker calls the gate as a phase of a step begins. What ended it otherwise than done is said in one line.
+pub fn fdps<R: Threads + Sync, W: AsStr, S: Store, G: Gate>(
+    rt: &R,
     alloc: Global,
     words: &[W],
     store: &mut S,
-    _gate: &G,
+    gate: &G,
 ) -> Status
     requires { HasRoom (S.faults store.old) }
 
@@ -65,11 +38,51 @@ pub fn fdps<L: World, W: AsStr, S: Store, G: Gate>(
         (standing (S.told store.new) (S.faults store.new) (S.is_steady store.new)) }
 {
     one_verdict();
-    let line = CommandLine::<W, L> {
-        words,
-        world: PhantomData,
+    let status = carry_out(rt, alloc, words, store, gate);
+    say(alloc, store, status)
+}
+
+// Carries out what the words ask for, without its line.
+fn carry_out<R: Threads + Sync, W: AsStr, S: Store, G: Gate>(
+    rt: &R,
+    alloc: Global,
+    words: &[W],
+    store: &mut S,
+    gate: &G,
+) -> Status
+    requires { HasRoom (S.faults store.old) }
+    ensures { CarriesOut (EndsWords (map W.text words.now)) (WordsMean (map W.text words.now)) result
+        (standing (S.told store.old) (S.faults store.old) (S.is_steady store.old))
+        (standing (S.told store.new) (S.faults store.new) (S.is_steady store.new)) }
+{
+    match command_line::read(alloc, words) {
+        Ok(Some(Command::Run(deck, count))) => {
+            let workers = Workers { rt, count, gate };
+            run(&workers, alloc, store, deck)
+        }
+        Ok(Some(Command::Bench(_, _, _))) => Status::NotBuilt(Part::Bench),
+        Ok(None) => Status::Usage,
+        Err(OutOfMemory) => Status::Memory,
+    }
+}
+
+// Says the line of a status, and answers the status that the program ends with.
+fn say<S: Store>(alloc: Global, store: &mut S, status: Status) -> Status
+    requires { (S.faults store.old).says < 2 ^ 64 - 1 }
+    ensures { SaysLine line_of status result
+        (standing (S.told store.old) (S.faults store.old) (S.is_steady store.old))
+        (standing (S.told store.new) (S.faults store.new) (S.is_steady store.new)) }
+{
+    if matches!(status, Status::Done) {
+        return status;
+    }
+    let Ok(line) = said_line(alloc, &status) else {
+        return Status::Memory;
     };
-    conclude(alloc, &line, store)
+    match store.say(&line) {
+        Ok(()) | Err(StoreErr::Failed) => status,
+        Err(StoreErr::Memory) => Status::Memory,
+    }
 }
 
 /// The words of the program have at most one verdict on the contents of its files.

@@ -1,50 +1,58 @@
-ghost use Rattle.std.specs.Prelude.{◌≡◌, ◌≤◌, ℕ, None, IfOk};
+ghost use Rattle.std.specs.Prelude.{◌≡◌, ◌≤◌, None, IfOk};
 ghost use Rattle.deck_file.specs.declared.limits.TheConstants.{MOST_STEPS};
 ghost use Rattle.deck_file.specs.Laws.{IsWithinLimits};
+ghost use Rattle.rank_step.specs.World.{StandsFor};
 ghost use Rattle.run_model.specs.Setup.{Setup};
-ghost use Rattle.top_call.specs.Run.{setup_of, unbuilt};
+ghost use Rattle.top_call.specs.Run.{AreWorkers, setup_of, unbuilt};
 ghost use Rattle.top_call.specs.Steps.{TakesStep};
 
+use crate::workers::Workers;
 use deck_file::Deck;
+use dump_text::write_step;
 use kern_types::Typed;
-use particle_file::Particles;
+use particle_file::{Particles, bodies};
+use pf_io::Gate;
 use pf_num::OutOfMemory;
-use run_model::Fault;
+use rank_step::{StepFault, World, WorldSetup};
 use std::alloc::Global;
+use std::thread::Threads;
 
-/// Why a step gave no text.
-#[derive(Clone, Copy, Debug, PartialEq, Eq, Hash)]
-pub enum StepFault {
-    /// A particle has this fault.
-    Numeric(Fault),
-    /// The lists have more entries than the limit, namely so many.
-    Lists(u64),
-    /// Memory ran out.
-    Memory,
+/// The world of particles as they were read.
+pub(crate) fn world_of(
+    alloc: Global,
+    deck: &Deck,
+    kernel: Typed,
+    particles: Particles,
+) -> Result<World, OutOfMemory>
+    requires within { IsWithinLimits deck.now }
+    requires built { unbuilt deck.now ≡ None }
+    ensures due { IfOk result (λ world. world.due ≡ 0) }
+    ensures stands { IfOk result (λ world. StandsFor world (setup_of deck.now kernel particles)) }
+{
+    let setup = WorldSetup {
+        bodies: bodies(&particles).to_vec(alloc)?,
+        grid: deck.grid,
+        theta: deck.theta,
+        group: deck.group,
+        dt: deck.dt,
+        reuse: deck.reuse,
+    };
+    World::open(alloc, setup, kernel)
 }
 
-/// What a run's steps are taken in: all ranks with their particles.
-pub trait World: Sized + Drop {
-    /// The number of the next step.
-    ghost due: { Self → ℕ };
-
-    /// It stands for the state of the run before that step.
-    ghost stands_for: { Self → Setup → Type 0 };
-
-    /// The world of particles as they were read.
-    fn open(
-        alloc: Global,
-        deck: &Deck,
-        kernel: Typed,
-        particles: Particles,
-    ) -> Result<Self, OutOfMemory>
-        requires within { IsWithinLimits deck.now }
-        requires built { unbuilt deck.now ≡ None }
-        ensures due { IfOk result (λ world. due world ≡ 0) }
-        ensures stands { IfOk result (λ world. stands_for world (setup_of deck.now kernel particles)) };
-
-    /// The world after the next step, with the text of that step.
-    fn step(self, alloc: Global) -> Result<(Self, Vec<u8>), StepFault>
-        requires { due self ≤ MOST_STEPS }
-        ensures { (run : Setup) → stands_for self run → TakesStep due stands_for (λ v. v.items) run (due self) result };
+/// The world after its next step, with the text of that step.
+pub(crate) fn stepped<R: Threads + Sync, G: Gate>(
+    workers: &Workers<'_, R, G>,
+    alloc: Global,
+    world: World,
+) -> Result<(World, Vec<u8>), StepFault>
+    requires few { world.due ≤ MOST_STEPS }
+    requires workers { AreWorkers workers.now.count }
+    ensures { (run : Setup) → StandsFor world run → TakesStep (λ v. v.items) run world.due result }
+{
+    let (world, report) = world.step(workers.rt, alloc, workers.count, workers.gate)?;
+    match write_step(alloc, &report.text) {
+        Ok(text) => Ok((world, text)),
+        Err(OutOfMemory) => Err(StepFault::Memory),
+    }
 }

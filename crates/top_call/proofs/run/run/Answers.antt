@@ -1,8 +1,8 @@
 use Rattle.std.proofs.Common.{Ok, Err, refl}
-use Rattle.command_frame.proofs.StepLaws.{goes_on_after, stops_after}
+use Rattle.command_frame.proofs.StepLaws.{goes_on_after}
 use Rattle.top_call.specs.Inputs.{DeckFileMeans}
 use Rattle.top_call.specs.Run.{EndsRun, WithDeck}
-use Rattle.top_call.proofs.RunSteps.{reading_ends_run}
+use Rattle.top_call.proofs.RunSteps.{stops_run}
 use Rattle.top_call.proofs.run.run.Goals as goal
 
 pub returns-in-Ok : goal.returns-in-Ok
@@ -12,5 +12,5 @@ returns-in-Ok g c =
 
 pub returns-in-Err : goal.returns-in-Err
 returns-in-Err g c =
-    stops_after EndsRun DeckFileMeans (λ deck. deck) c.args.name.now (λ files deck. WithDeck deck files) (Err c.in-Err.status) c.in-Err.status _ _
-    reading_ends_run refl c.in-Err.ensures.reads
+    stops_run DeckFileMeans (λ deck. deck) c.args.name.now (λ files deck. WithDeck deck files) (Err c.in-Err.status) c.in-Err.status _ _
+    c.in-Err.ensures.ends refl c.in-Err.ensures.reads

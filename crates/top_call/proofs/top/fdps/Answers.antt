@@ -1,9 +1,10 @@
 use Rattle.std.proofs.Common.{map}
-use Rattle.top_call.proofs.WordLemmas.{usage, usage_only}
+use Rattle.command_frame.proofs.Concluding.{concluded}
+use Rattle.top_call.specs.Run.{EndsWords, WordsMean}
+use Rattle.top_call.specs.Said.{line_of}
 use Rattle.top_call.proofs.top.fdps.Goals as goal
 
-pub returns-clause-usage : goal.returns-clause-usage
-returns-clause-usage g c = usage (map g.W.AsStr.text c.args.words.now) c.conclude.result c.conclude.ensures.ends
-
-pub returns-clause-usage_only : goal.returns-clause-usage_only
-returns-clause-usage_only g c = usage_only (map g.W.AsStr.text c.args.words.now) c.conclude.result c.conclude.ensures.ends
+pub returns-clause-concludes : goal.returns-clause-concludes
+returns-clause-concludes g c =
+    let words = map g.W.AsStr.text c.args.words.now in
+    concluded (EndsWords words) (WordsMean words) line_of c.carry_out-status.result c.say.result _ _ _ (c.one_verdict.ensures words) c.carry_out-status.ensures c.say.ensures

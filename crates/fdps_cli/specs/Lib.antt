@@ -1,9 +1,0 @@
-pub mod Words
-pub mod Deck
-pub mod Kernel
-pub mod Particles
-pub mod Dump
-pub mod Owned
-pub mod Run
-pub mod Said
-pub mod Steps

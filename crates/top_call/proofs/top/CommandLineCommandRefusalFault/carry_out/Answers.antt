@@ -1,8 +1,0 @@
-use Rattle.std.proofs.Common.{map}
-use Rattle.top_call.proofs.WordLemmas.{run_of_words}
-use Rattle.top_call.proofs.top.CommandLineCommandRefusalFault.carry_out.Goals as goal
-
-pub returns-in-Ok-Some-Run : goal.returns-in-Ok-Some-Run
-returns-in-Ok-Some-Run g c =
-    let words = rw (c.in-Ok-Some-Run.field-0-is, c.in-Ok-Some-Run.field-0-0-is) at c.in-Ok-Some-Run.ensures in
-    run_of_words (map g.W.AsStr.text c.args.self.now.words.now) c.in-Ok-Some-Run.deck.now c.in-Ok-Some-Run.field-0-0-1 c.run.result _ _ words c.run.ensures
