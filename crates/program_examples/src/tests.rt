@@ -1,8 +1,0 @@
-mod failing;
-mod faults;
-mod forces;
-mod inputs;
-mod kernels;
-mod moves;
-mod program;
-mod words;
