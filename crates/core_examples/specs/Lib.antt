@@ -1,0 +1,2 @@
+pub use Rattle.step_core.specs.Core
+pub use Rattle.pf_model.specs.Particles
