@@ -1,0 +1,8 @@
+// A board from which seats in many threads claim the numbers below a total, each once, without a lock.
+// It stands on pf_num and on the toolchain's atomic_table, whose one word counts the claims.
+#![tactic(auto)]
+
+mod board;
+mod rule;
+
+pub use board::{Board, Seat};
