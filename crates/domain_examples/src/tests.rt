@@ -1,0 +1,3 @@
+mod bodies;
+mod cuts;
+mod ranks;

@@ -1,0 +1,141 @@
+-- Particles in the order of (coordinate, id), and the cuts that they make.
+use Rattle.std.proofs.Common.{◌≡◌, ℕ, suc, ◌-◌, ◌*◌, ◌/◌, ◌^◌, ◌<◌, ◌≤◌, Bool, true, false, cond, ◌&&◌, ◌||◌, List, [], ◌∷◌, length, get_or, map, nat_eq, nat_lt, inl, inr, refl, sym, ◌∙◌, ap, arith}
+use Rattle.std.specs.List.{range_with_len, AllPairs}
+use Rattle.std.specs.Bool.{IsTrue}
+use Rattle.std.specs.List.Sorted.{IsPermutation, IsSortedBy, IsNonDecreasingBy}
+use Rattle.std.specs.Cmp.{nat_cmp_is}
+use Rattle.std.specs.Ordering.{nat_cmp, ordering_then, is_lt}
+use Rattle.std.specs.declared.cmp.Ordering.{Ordering}
+use Rattle.std.specs.declared.cmp.Ordering.TheVariants.{Less, Equal}
+use Rattle.std.proofs.lemmas.Bool.{cases_lt, cases_order, both_ways, cond-true, ltb-true, lt-ltb, eqb-true, eq-eqb, or_cases, or_left, or_right, and_parts, and_from}
+use Rattle.std.proofs.lemmas.Bool.Decides.{Decides-eqb}
+use Rattle.std.proofs.lemmas.Cmp.{nat_cmp_total, on_total, then_total}
+use Rattle.std.proofs.lemmas.List.{length-map, get_or-map}
+use Rattle.std.proofs.lemmas.List.Sorted.{ranks_by, sorted_far, IsPermutation-map}
+use Rattle.std.proofs.lemmas.Map.Made.{AllPairs-from_IsDistinct}
+use Rattle.pf_geom.specs.Position.{Position}
+use Rattle.pf_geom.specs.declared.axis.Axis.{Axis}
+use Rattle.pf_model.specs.Particle.{Particle}
+use Rattle.pf_model.specs.Particles.{HaveDistinctIds}
+use Rattle.pf_model.specs.Order.{placed, in_order_once}
+use Rattle.pf_model.specs.Division.{Division}
+use Rattle.pf_model.specs.Domains.{Multisection, comes_first, coordinates_of, cuts_of, cuts_for}
+use Rattle.pf_model.specs.DomainLaws.{CutsIgnoreOrder}
+use Rattle.multisection.specs.Sites.{along, IsInOrder}
+
+-- a list whose elements stand in order is that list in order
+pub in_order-ordered : {X : Type 0} (before : X → X → Bool) (xs : List X) → AllPairs (λ i j. IsTrue (before i j)) xs → in_order_once before xs ≡ xs
+in_order-ordered before [] h = refl
+in_order-ordered before (x ∷ []) h = refl
+in_order-ordered before (x ∷ y ∷ ys) h =
+    ap (placed before x) (in_order-ordered before (y ∷ ys) (λ i j d less within. h (suc i) (suc j) d (omega arith) (omega arith)))
+    ∙ cond-true (before x y) _ _ (h 0 1 x (omega arith) (omega arith))
+
+map-cond : {X Y : Type 0} (f : X → Y) (b : Bool) (us vs : List X) → map f (cond b us vs) ≡ cond b (map f us) (map f vs)
+map-cond f true us vs = refl
+map-cond f false us vs = refl
+
+placed-map : {X Y : Type 0} (f : X → Y) (before : X → X → Bool) (before' : Y → Y → Bool) → ((x y : X) → before' (f x) (f y) ≡ before x y) → (x : X) (ys : List X) → placed before' (f x) (map f ys) ≡ map f (placed before x ys)
+placed-map f before before' same x [] = refl
+placed-map f before before' same x (y ∷ ys) =
+    let rest = placed-map f before before' same x ys in
+    let first = same x y in
+    let second = same y x in
+    (λ i. cond (first i) (f x ∷ f y ∷ map f ys) (cond (second i) (f y ∷ rest i) (f y ∷ map f ys)))
+    ∙ ap (cond (before x y) (f x ∷ f y ∷ map f ys)) (sym (map-cond f (before y x) (y ∷ placed before x ys) (y ∷ ys)))
+    ∙ sym (map-cond f (before x y) (x ∷ y ∷ ys) (cond (before y x) (y ∷ placed before x ys) (y ∷ ys)))
+
+-- where two orders agree, so do the lists in order
+in_order-map : {X Y : Type 0} (f : X → Y) (before : X → X → Bool) (before' : Y → Y → Bool) → ((x y : X) → before' (f x) (f y) ≡ before x y) → (xs : List X) → in_order_once before' (map f xs) ≡ map f (in_order_once before xs)
+in_order-map f before before' same [] = refl
+in_order-map f before before' same (x ∷ xs) =
+    ap (placed before' (f x)) (in_order-map f before before' same xs) ∙ placed-map f before before' same x (in_order_once before xs)
+
+pub map-map : {X Y Z : Type 0} (f : X → Y) (g : Y → Z) (h : X → Z) → ((x : X) → g (f x) ≡ h x) → (xs : List X) → map g (map f xs) ≡ map h xs
+map-map f g h same [] = refl
+map-map f g h same (x ∷ xs) = λ i. same x i ∷ map-map f g h same xs i
+
+orders_agree : (a b : Position → ℕ) (f : Particle → Particle) → ((j : Particle) → (f j).id ≡ j.id) → ((j : Particle) → b (f j).at ≡ a j.at) → (p q : Particle) → comes_first b (f p) (f q) ≡ comes_first a p q
+orders_agree a b f ids places p q = λ i. nat_lt (places p i) (places q i) || (nat_eq (places p i) (places q i) && nat_lt (ids p i) (ids q i))
+
+-- cuts come from coordinates and ids alone
+pub cuts_of-map : (a b : Position → ℕ) (f : Particle → Particle) → ((j : Particle) → (f j).id ≡ j.id) → ((j : Particle) → b (f j).at ≡ a j.at) → (js : List Particle) (m : ℕ) → cuts_of b (map f js) m ≡ cuts_of a js m
+cuts_of-map a b f ids places js m =
+    let coords : coordinates_of b (map f js) ≡ coordinates_of a js =
+    ap (map (λ (j : Particle). b j.at)) (in_order-map f (comes_first a) (comes_first b) (orders_agree a b f ids places) js)
+    ∙ map-map f (λ (j : Particle). b j.at) (λ (j : Particle). a j.at) places (in_order_once (comes_first a) js) in
+    let long = length-map js f in
+    λ i. map (λ k. get_or (coords i) (long i * k / m) (2 ^ 30)) (range_with_len 1 (m - 1))
+
+-- a particle whose x is the coordinate along an axis
+turned : Axis → Particle → Particle
+turned axis j = record { id = j.id; at = record { x = along axis j.at; y = 0; z = 0 }; vel = []; mass = 0; attr = [] }
+
+pub ids_kept : (f : Particle → Particle) → ((j : Particle) → (f j).id ≡ j.id) → (js : List Particle) → map (λ (j : Particle). j.id) (map f js) ≡ map (λ (j : Particle). j.id) js
+ids_kept f ids js = map-map f (λ (j : Particle). j.id) (λ (j : Particle). j.id) ids js
+
+-- the order of particles changes no cut along an axis
+pub cuts_of-same : CutsIgnoreOrder → (axis : Axis) (js ks : List Particle) (m : ℕ) → HaveDistinctIds js → IsPermutation js ks → cuts_of (along axis) js m ≡ cuts_of (along axis) ks m
+unfolding cuts_for turned
+cuts_of-same law axis js ks m distinct same =
+    let g : Division = record { nx = m; ny = 1; nz = 1 } in
+    let f : Particle → Particle = turned axis in
+    let apart : HaveDistinctIds (map f js) = rw (ids_kept f (λ j. refl) js) distinct in
+    let whole = law g (map f js) (map f ks) apart (IsPermutation-map f js ks same) in
+    sym (cuts_of-map (along axis) (λ p. p.x) f (λ j. refl) (λ j. refl) js m)
+    ∙ ap (λ (s : Multisection). s.x) whole
+    ∙ cuts_of-map (along axis) (λ p. p.x) f (λ j. refl) (λ j. refl) ks m
+
+-- what a sort by (coordinate, id) leaves
+abbrev pub is_less : Axis → Particle → Particle → Bool
+is_less axis i j = is_lt (ordering_then (nat_cmp (along axis i.at) (along axis j.at)) (nat_cmp i.id j.id))
+
+ids_differ : (js : List Particle) → HaveDistinctIds js → (i j : ℕ) (d : Particle) → i < j → j < length js → (get_or js i d).id ≡ (get_or js j d).id → ⊥
+ids_differ js distinct i j d less within same =
+    let ids : List ℕ = map (λ p. p.id) js in
+    AllPairs-from_IsDistinct Decides-eqb ids distinct i j 0 less (rw length-map within)
+    (get_or-map (λ (p : Particle). p.id) js i d 0 (omega arith) ∙ same ∙ sym (get_or-map (λ (p : Particle). p.id) js j d 0 within))
+
+first_from_not_less : (axis : Axis) (i j : Particle) → is_less axis j i ≡ false → (i.id ≡ j.id → ⊥) → comes_first (along axis) i j ≡ true
+first_from_not_less axis i j not_less differ =
+    let a = along axis i.at in
+    let b = along axis j.at in
+    elim (cases_order a b) [
+      | inl same ↦ elim (cases_order i.id j.id) [
+        | inl e ↦ absurd (differ e)
+        | inr h ↦ elim h [
+          | inl less ↦ or_right _ _ (and_from _ _ (eq-eqb _ _ same) (lt-ltb _ _ less))
+          | inr more ↦
+              let ids : is_less axis j i ≡ true =
+              ap (λ (o : Ordering). is_lt (ordering_then o (nat_cmp j.id i.id))) (sym (nat_cmp_is b a Equal (sym same))) ∙ ap is_lt (sym (nat_cmp_is j.id i.id Less more)) in
+              absurd (both_ways (is_less axis j i) not_less ids)
+        ]
+      ]
+      | inr h ↦ elim h [
+        | inl less ↦ or_left _ _ (lt-ltb _ _ less)
+        | inr more ↦
+            let lower : is_less axis j i ≡ true = ap (λ (o : Ordering). is_lt (ordering_then o (nat_cmp j.id i.id))) (sym (nat_cmp_is b a Less more)) in
+            absurd (both_ways (is_less axis j i) not_less lower)
+      ]
+    ]
+
+pub in_order_from_sort : (axis : Axis) (js : List Particle) → HaveDistinctIds js → IsSortedBy (is_less axis) js → IsInOrder axis js
+in_order_from_sort axis js distinct sorted i j d less within =
+    let order = then_total (on_total (λ (p : Particle). along axis p.at) nat_cmp_total) (on_total (λ (p : Particle). p.id) nat_cmp_total) in
+    let far = sorted_far (is_less axis) (ranks_by order (λ (p : Particle). p)) js sorted i j d (omega arith) within in
+    first_from_not_less axis (get_or js i d) (get_or js j d) far (ids_differ js distinct i j d less within)
+
+rises : (axis : Axis) (i j : Particle) → comes_first (along axis) i j ≡ true → along axis i.at ≤ along axis j.at
+rises axis i j e =
+    elim (or_cases _ _ e) [
+      | inl h ↦ (let less = ltb-true (along axis i.at) (along axis j.at) h in omega arith)
+      | inr h ↦ (let same = eqb-true (along axis i.at) (along axis j.at) (and_parts _ _ h).0 in omega arith)
+    ]
+
+-- the coordinates ascend
+pub coordinates_ascend : (axis : Axis) (js : List Particle) → IsInOrder axis js → IsNonDecreasingBy (λ j. along axis j.at) js
+coordinates_ascend axis js ordered i j d least within =
+    elim (cases_lt i j) [
+      | inl less ↦ rises axis (get_or js i d) (get_or js j d) (ordered i j d less within)
+      | inr more ↦ (let same : i ≡ j = omega arith in let e = ap (λ (k : ℕ). along axis (get_or js k d).at) same in omega arith)
+    ]
