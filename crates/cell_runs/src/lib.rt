@@ -5,6 +5,8 @@
 
 mod cell_run;
 mod finding;
+mod laws;
 
 pub use cell_run::CellRun;
 pub use finding::find_runs;
+pub use laws::{runs_hold_each_place, runs_rise};
