@@ -1,5 +1,6 @@
 -- The lists of a rank's groups, while the particles of other ranks are still to come.
-use Rattle.std.specs.Prelude.{◌≡◌, ℕ, ◌+◌, ◌<◌, ◌≤◌, List, [], ◌∷◌, length, map, sum_by, All, Contains, IsPermutation}
+use Rattle.std.specs.Prelude.{◌≡◌, ℕ, ◌+◌, ◌<◌, ◌≤◌, List, [], ◌∷◌, ◌++◌, length, map, sum_by, All, Contains}
+use Rattle.std.specs.Prelude.{IsPermutation}
 use Rattle.pf_model.specs.declared.entry.Entry.{Entry}
 use Rattle.pf_model.specs.declared.limits.TheConstants.{MOST_PARTICLES}
 use Rattle.pf_model.specs.Particle.{Particle}
@@ -7,8 +8,9 @@ use Rattle.pf_model.specs.Criterion.{Criterion}
 use Rattle.pf_model.specs.Division.{Division, rank_count}
 use Rattle.pf_model.specs.Domains.{particles_of}
 use Rattle.pf_model.specs.Group.{box_of}
-use Rattle.pf_model.specs.EssentialTree.{limited_list}
+use Rattle.pf_model.specs.EssentialTree.{Essential, limited_list}
 use Rattle.morton_tree.specs.declared.group.Group.{Group}
+use Rattle.morton_tree.specs.Tree.{IsInKeyOrder}
 use Rattle.morton_tree.specs.Spans.{at_span}
 use Rattle.group_lists.specs.declared.gather.TheConstants.{MOST_ENTRIES}
 
@@ -20,9 +22,21 @@ pub record Gathering : Type 0 where
   pub groups : List Group
   pub absorbed : List ℕ
 
+abbrev pub gathering_of : ℕ → List Particle → List Group → List ℕ → Gathering
+gathering_of rank own groups absorbed = record { rank = rank; own = own; groups = groups; absorbed = absorbed }
+
 -- before any rank is absorbed
 abbrev pub own_gathering : ℕ → List Particle → List Group → Gathering
-own_gathering rank own groups = record { rank = rank; own = own; groups = groups; absorbed = [] }
+own_gathering rank own groups = gathering_of rank own groups []
+
+-- after one rank more
+abbrev pub with_source : Gathering → ℕ → Gathering
+with_source gather src = gathering_of gather.rank gather.own gather.groups (gather.absorbed ++ src ∷ [])
+
+-- a source that can be absorbed: a rank that is neither the own one nor was absorbed
+pub record IsNewSource (g : Division) (gather : Gathering) (src : ℕ) : Type 0 where
+  pub within : src < rank_count g
+  pub new : Contains (gather.rank ∷ gather.absorbed) src → ⊥
 
 -- the list of a group limited to the own rank and those absorbed
 abbrev pub partial_list : Criterion → Division → List Particle → Gathering → Group → List Entry
@@ -31,6 +45,14 @@ partial_list t g js gather group = limited_list t group.around g js (gather.rank
 -- how long these lists are together
 abbrev pub gathered_count : Criterion → Division → List Particle → Gathering → ℕ
 gathered_count t g js gather = sum_by (λ group. length (partial_list t g js gather group)) gather.groups
+
+-- the list of a group limited to one source
+abbrev pub source_list : Criterion → Division → List Particle → ℕ → Group → List Entry
+source_list t g js src group = limited_list t group.around g js (src ∷ [])
+
+-- how long these lists are together
+abbrev pub source_count : Criterion → Division → List Particle → List Group → ℕ → ℕ
+source_count t g js groups src = sum_by (λ group. length (source_list t g js src group)) groups
 
 -- every rank is the own one or was absorbed
 abbrev pub IsWhole : Division → Gathering → Type 0
@@ -53,3 +75,11 @@ pub record IsGathered (t : Criterion) (g : Division) (js : List Particle) (gathe
   pub counted : count ≡ gathered_count t g js gather
   pub kept : count ≤ MOST_ENTRIES → lists ≡ map (partial_list t g js gather) gather.groups
   pub bounded : sum_by length lists ≤ MOST_ENTRIES
+
+-- what it has to absorb more: its criterion, its own particles in key order, and the trees that it absorbed, one for
+-- each source in their order, sent to its rank
+pub record CanAbsorb (t : Criterion) (gather : Gathering) (theta : Criterion) (trees : List Essential) : Type 0 where
+  pub criterion : theta ≡ t
+  pub ordered : IsInKeyOrder gather.own
+  pub sources : gather.absorbed ≡ map (λ tree. tree.src) trees
+  pub sent_here : All (λ tree. tree.dst ≡ gather.rank) trees

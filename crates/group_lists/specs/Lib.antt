@@ -1,5 +1,7 @@
 pub mod Places
 pub mod Runs
+pub mod Keyed
+pub mod Pieces
 pub mod Gathering
 pub mod Whole
 pub use Rattle.pf_model.specs.Particle

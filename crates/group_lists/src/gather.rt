@@ -1,48 +1,58 @@
-ghost use Rattle.std.specs.Prelude.{◌≡◌, ◌<◌, ◌≤◌, IfOk, All, Contains, IsPermutation, [], length, map, slice_get, Some, sum_by};
+ghost use Rattle.std.specs.Prelude.{◌≡◌, ◌+◌, ◌*◌, ◌<◌, ◌≤◌, IfOk, OnOk, All, Contains, IsPermutation, [], length, map};
+ghost use Rattle.std.specs.Prelude.{slice_get, Some, sum_by};
 ghost use Rattle.pf_model.specs.Division.{rank_count};
 ghost use Rattle.pf_model.specs.Domains.{particles_of};
 ghost use Rattle.pf_model.specs.Interaction.{list_of};
 ghost use Rattle.morton_tree.specs.Tree.{IsUnmoved};
 ghost use Rattle.morton_tree.specs.Spans.{at_span};
-ghost use Rattle.group_lists.specs.Gathering.{own_gathering, IsGroupOf, IsWhole, partial_list, gathered_count};
+ghost use Rattle.group_lists.specs.Gathering.{own_gathering, with_source, IsNewSource, IsGroupOf, IsWhole};
+ghost use Rattle.group_lists.specs.Gathering.{partial_list, gathered_count, source_count};
 
+use crate::absorbing::absorb_tree;
+use crate::keyed_tree::KeyedTree;
 use crate::listed::Listed;
 use crate::lists::Lists;
 use crate::scan::list_over;
 use morton_tree::{Group, Tree};
+use pf_geom::DEEPEST;
 use pf_model::{
-    Body, Entry, MOST_PARTICLES, Steps, Terms, Theta, all_ranks_have_all, lists_are_short,
+    Body, Entry, EssTree, MOST_PARTICLES, Steps, Terms, Theta, all_ranks_have_all, lists_are_short,
     lists_hold_their_entries, lists_ignore_order, one_rank_has_its_own,
 };
 use pf_num::OutOfMemory;
 use std::alloc::Global;
-use std::marker::{Model, PhantomData};
+use std::marker::Model;
 use std::sync::ledger::Ledger;
 
 /// The most entries that the lists of a rank's groups have together, and the most that are kept.
 pub const MOST_ENTRIES: u64 = 1 << 24;
 
-/// The interaction lists of the groups of one rank, over its own particles.
+/// The interaction lists of the groups of one rank, over its own particles and those of the ranks absorbed.
 #[derive(Drop)]
 pub struct Gather<T: Terms> {
     rank: u32,
+    theta: Theta,
     bodies: Vec<Body>,
     listed: Vec<Listed>,
     count: u64,
-    terms: PhantomData<T>,
+    trees: Vec<KeyedTree<T>>,
 }
 
 impl<T: Terms> Model for Gather<T> {
     ghost use Rattle.std.specs.Prelude.{map};
-    ghost use Rattle.group_lists.specs.Gathering.{Gathering, own_gathering, IsGathered};
+    ghost use Rattle.group_lists.specs.Gathering.{Gathering, gathering_of, IsGathered, CanAbsorb};
 
     ghost Value = { Gathering };
 
-    ghost view = { λ g. own_gathering g.rank g.bodies.items (map (λ l. l.group) g.listed.items) };
+    ghost view = { λ g. gathering_of g.rank g.bodies.items (map (λ l. l.group) g.listed.items)
+        (map (λ t. t.src) g.trees.items) };
 
     ghost invariant = { λ g. IsGathered T.theta T.grid T.particles
-        (own_gathering g.rank g.bodies.items (map (λ l. l.group) g.listed.items))
-        (map (λ l. l.entries.items) g.listed.items) g.count };
+        (gathering_of g.rank g.bodies.items (map (λ l. l.group) g.listed.items) (map (λ t. t.src) g.trees.items))
+        (map (λ l. l.entries.items) g.listed.items) g.count
+        × CanAbsorb T.theta
+        (gathering_of g.rank g.bodies.items (map (λ l. l.group) g.listed.items) (map (λ t. t.src) g.trees.items))
+        g.theta g.trees.items };
 }
 
 impl<T: Terms> Gather<T> {
@@ -73,10 +83,49 @@ impl<T: Terms> Gather<T> {
         let bodies = tree.bodies().to_vec(alloc)?;
         Ok(Gather {
             rank,
+            theta: t,
             bodies,
             listed,
             count,
-            terms: PhantomData,
+            trees: Vec::new(alloc),
+        })
+    }
+
+    /// Adds what a source's essential tree has for each list. The tree was sent to this rank by one that wasn't
+    /// absorbed yet. After a refusal the gather is gone. For each group no more cells are tested than `DEEPEST + 1`
+    /// times the entries of its list limited to this source.
+    pub fn absorb<L: Ledger>(
+        self,
+        alloc: Global,
+        tree: EssTree<T>,
+        steps: &mut Steps<L>,
+    ) -> Result<Gather<T>, OutOfMemory>
+        requires here { tree.dst ≡ self.rank }
+        requires new { IsNewSource T.grid self tree.src }
+        ensures value { IfOk result (λ gather. gather ≡ with_source self tree.src) }
+        ensures tests { OnOk result (steps.new ≤ steps.old
+            + (DEEPEST + 1) * source_count T.theta T.grid T.particles self.groups tree.src) }
+    {
+        let tree = KeyedTree::of(alloc, tree)?;
+        let (mut listed, mut trees) = (self.listed, self.trees);
+        let count = absorb_tree(
+            alloc,
+            &mut listed,
+            self.count,
+            &self.bodies,
+            &trees,
+            &tree,
+            self.theta,
+            steps,
+        )?;
+        trees.push(tree)?;
+        Ok(Gather {
+            rank: self.rank,
+            theta: self.theta,
+            bodies: self.bodies,
+            listed,
+            count,
+            trees,
         })
     }
 

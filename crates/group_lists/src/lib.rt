@@ -3,9 +3,14 @@
 // pf_num.
 #![tactic(auto)]
 
+mod absorbing;
 mod gather;
+mod keyed_tree;
 mod listed;
 mod lists;
+mod merging;
+mod occupied;
+mod pieces;
 mod scan;
 
 pub use gather::{Gather, MOST_ENTRIES};

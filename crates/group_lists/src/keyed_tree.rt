@@ -1,0 +1,128 @@
+ghost use Rattle.std.specs.Prelude.{◌≡◌, ◌-◌, ◌/◌, ◌^◌, ◌<◌, ◌≤◌, IfOk, All, length, map};
+ghost use Rattle.std.specs.List.{list_any};
+ghost use Rattle.pf_geom.specs.Octant.{cell_at};
+ghost use Rattle.pf_model.specs.Interaction.{is_cell};
+ghost use Rattle.pf_model.specs.Sufficiency.{entry_moment, moment_together};
+ghost use Rattle.group_lists.specs.Keyed.{item_position, item_key, item_sums};
+
+use pf_geom::{Cell, DEEPEST, corner, key_of};
+use pf_model::{Entry, EssTree, MOST_PARTICLES, Moment, Terms, lists_are_short, lists_merge};
+use pf_num::OutOfMemory;
+use std::alloc::Global;
+use std::marker::{Model, PhantomData};
+
+// An essential tree with its items in the order of the Morton curve, so that those in a cell stand together, the
+// keys by which they are found, and the moments of the first items for each count of them.
+#[derive(Drop)]
+pub(crate) struct KeyedTree<T: Terms> {
+    pub src: u32,
+    pub dst: u32,
+    pub items: Vec<Entry>,
+    pub keys: Vec<u128>,
+    pub sums: Vec<Moment>,
+    pub terms: PhantomData<T>,
+}
+
+impl<T: Terms> Model for KeyedTree<T> {
+    ghost use Rattle.pf_model.specs.EssentialTree.{Essential};
+    ghost use Rattle.group_lists.specs.Keyed.{IsKeyed};
+
+    ghost Value = { Essential };
+
+    ghost view = { λ t. record { src = t.src; dst = t.dst; items = t.items.items } };
+
+    ghost invariant = { λ t. IsKeyed T.theta T.grid T.particles
+        (record { src = t.src; dst = t.dst; items = t.items.items }) t.keys.items t.sums.items };
+}
+
+impl<T: Terms> KeyedTree<T> {
+    // Puts the items of an essential tree into the order of their keys.
+    pub fn of(alloc: Global, tree: EssTree<T>) -> Result<KeyedTree<T>, OutOfMemory>
+        ensures src { IfOk result (λ keyed. keyed.src ≡ tree.src) }
+        ensures dst { IfOk result (λ keyed. keyed.dst ≡ tree.dst) }
+    {
+        lists_are_short();
+        lists_merge();
+        let mut items = tree.items;
+        items.sort_unstable_by_key(|item| item_key(item));
+        let keys = keys_of(alloc, &items)?;
+        let sums = sums_of(alloc, &items)?;
+        Ok(KeyedTree {
+            src: tree.src,
+            dst: tree.dst,
+            items,
+            keys,
+            sums,
+            terms: PhantomData,
+        })
+    }
+
+    // Whether an item has its place in a cell.
+    pub fn has_items_in(&self, cell: Cell) -> bool
+        ensures { result ≡ list_any (λ item. is_cell cell (cell_at (item_position item) cell.level)) self.now.items }
+    {
+        let place = self
+            .keys
+            .partition_point(|key| cell_key(*key, cell.level) < cell.key);
+        match self.keys.get(place) {
+            Some(key) => cell_key(*key, cell.level) == cell.key,
+            None => false,
+        }
+    }
+}
+
+// The key of the cell at a level of what has this key.
+pub(crate) fn cell_key(key: u128, level: u32) -> u128
+    requires { level ≤ DEEPEST }
+    ensures { result ≡ key / 8 ^ (DEEPEST - level) }
+{
+    key >> (3 * (DEEPEST - level))
+}
+
+// The key of an item: that of the corner of its cell, or of the particle.
+fn item_key(item: &Entry) -> u128
+    ensures value { result ≡ item_key item.now }
+    ensures fits { result < 2 ^ 90 }
+{
+    match item {
+        Entry::Cell(cell, _) => key_of(corner(*cell)),
+        Entry::One(body) => key_of(body.at),
+    }
+}
+
+// The keys of the items.
+fn keys_of(alloc: Global, items: &[Entry]) -> Result<Vec<u128>, OutOfMemory>
+    ensures value { IfOk result (λ keys. keys.items ≡ map item_key items.now) }
+    ensures fits { IfOk result (λ keys. All (λ key. key < 2 ^ 90) keys.items) }
+{
+    let mut keys = Vec::with_capacity(alloc, items.len())?;
+    for item in items {
+        keys.push(item_key(item))?;
+    }
+    Ok(keys)
+}
+
+// The moments of the first items, for each count of them from none to all.
+fn sums_of(alloc: Global, items: &[Entry]) -> Result<Vec<Moment>, OutOfMemory>
+    requires { (moment_together items.now).count ≤ MOST_PARTICLES }
+    ensures { IfOk result (λ sums. sums.items ≡ item_sums items.now) }
+{
+    let mut sums = Vec::with_capacity(alloc, items.len() + 1)?;
+    let mut so_far = Moment::none();
+    sums.push(so_far)?;
+    for item in items {
+        so_far = so_far.merge(entry_moment(item));
+        sums.push(so_far)?;
+    }
+    Ok(sums)
+}
+
+// The moment of what an entry stands for.
+fn entry_moment(entry: &Entry) -> Moment
+    ensures { result ≡ entry_moment entry.now }
+{
+    match entry {
+        Entry::Cell(_, moment) => *moment,
+        Entry::One(body) => Moment::of_one(body),
+    }
+}
