@@ -1,4 +1,6 @@
 pub mod CellLemmas
+pub mod SearchLemmas
+pub mod MergeLemmas
 pub mod OrderLemmas
 pub mod RunLemmas
 pub mod GatherLemmas

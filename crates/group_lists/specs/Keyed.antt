@@ -42,6 +42,6 @@ pub record IsKeyed (t : Criterion) (g : Division) (js : List Particle) (tree : E
 -- a box that an essential tree serves: it lies in the domain box of the rank that it was sent to, which has a particle
 pub record IsServed (g : Division) (js : List Particle) (dst : ℕ) (box : Bounds) : Type 0 where
   pub some : 1 ≤ length (particles_of g js dst)
-  pub box : IsBox box
-  pub domain : IsBox (domain_box g js dst)
+  pub inner : IsBox box
+  pub outer : IsBox (domain_box g js dst)
   pub within : IsWithin box (domain_box g js dst)
