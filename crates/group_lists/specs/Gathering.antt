@@ -8,7 +8,7 @@ use Rattle.pf_model.specs.Criterion.{Criterion}
 use Rattle.pf_model.specs.Division.{Division, rank_count}
 use Rattle.pf_model.specs.Domains.{particles_of}
 use Rattle.pf_model.specs.Group.{box_of}
-use Rattle.pf_model.specs.EssentialTree.{Essential, limited_list}
+use Rattle.pf_model.specs.EssentialTree.{Essential, essential_tree, limited_list}
 use Rattle.morton_tree.specs.declared.group.Group.{Group}
 use Rattle.morton_tree.specs.Tree.{IsInKeyOrder}
 use Rattle.morton_tree.specs.Spans.{at_span}
@@ -76,10 +76,16 @@ pub record IsGathered (t : Criterion) (g : Division) (js : List Particle) (gathe
   pub kept : count ≤ MOST_ENTRIES → lists ≡ map (partial_list t g js gather) gather.groups
   pub bounded : sum_by length lists ≤ MOST_ENTRIES
 
+-- an essential tree that was sent to this rank, with its items in any order
+pub record IsSentTo (t : Criterion) (g : Division) (js : List Particle) (rank : ℕ) (tree : Essential) : Type 0 where
+  pub here : tree.dst ≡ rank
+  pub items : IsPermutation (essential_tree t g js tree.src tree.dst) tree.items
+
 -- what it has to absorb more: its criterion, its own particles in key order, and the trees that it absorbed, one for
--- each source in their order, sent to its rank
-pub record CanAbsorb (t : Criterion) (gather : Gathering) (theta : Criterion) (trees : List Essential) : Type 0 where
+-- each source in their order
+pub record CanAbsorb (t : Criterion) (g : Division) (js : List Particle) (gather : Gathering) (theta : Criterion)
+    (trees : List Essential) : Type 0 where
   pub criterion : theta ≡ t
   pub ordered : IsInKeyOrder gather.own
   pub sources : gather.absorbed ≡ map (λ tree. tree.src) trees
-  pub sent_here : All (λ tree. tree.dst ≡ gather.rank) trees
+  pub sent : All (IsSentTo t g js gather.rank) trees

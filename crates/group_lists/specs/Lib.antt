@@ -4,6 +4,7 @@ pub mod Keyed
 pub mod Pieces
 pub mod Gathering
 pub mod Whole
+pub mod PieceLaws
 pub use Rattle.pf_model.specs.Particle
 pub use Rattle.pf_model.specs.Criterion
 pub use Rattle.pf_model.specs.Division

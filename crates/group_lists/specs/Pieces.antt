@@ -1,5 +1,6 @@
 -- What the pieces of a list, which are its part over one source, have in common with what was gathered before.
-use Rattle.std.specs.Prelude.{◌≡◌, ℕ, ◌+◌, ◌<◌, ◌≤◌, Bool, false, ◌||◌, ⊤, List, ◌∷◌, length, drop, Contains}
+use Rattle.std.specs.Prelude.{◌≡◌, ℕ, ◌+◌, ◌<◌, ◌≤◌, Bool, false, cond, ◌||◌, ⊤, List, ◌∷◌, length, drop, count_by}
+use Rattle.std.specs.Prelude.{Contains}
 use Rattle.std.specs.List.{list_any}
 use Rattle.pf_geom.specs.Octant.{cell_at}
 use Rattle.pf_model.specs.declared.entry.Entry.{Entry}
@@ -8,7 +9,7 @@ use Rattle.pf_model.specs.declared.limits.TheConstants.{MOST_PARTICLES}
 use Rattle.pf_model.specs.Particle.{Particle}
 use Rattle.pf_model.specs.Interaction.{is_cell}
 use Rattle.pf_model.specs.EssentialTree.{Essential}
-use Rattle.pf_model.specs.Merging.{merged}
+use Rattle.pf_model.specs.Merging.{merged, common_count}
 use Rattle.group_lists.specs.Keyed.{item_position}
 
 -- two cells have few members together
@@ -34,3 +35,8 @@ is_occupied own trees (Cell c m) =
     list_any (λ j. is_cell c (cell_at j.at c.level)) own
     || list_any (λ tree. list_any (λ item. is_cell c (cell_at (item_position item) c.level)) tree.items) trees
 is_occupied own trees (One p) = false
+
+-- how many of the pieces have their cell among what was gathered before: in the list, if it is kept
+abbrev pub common_with : List Particle → List Essential → Bool → List Entry → List Entry → ℕ
+common_with own trees few pieces entries =
+    cond few (common_count pieces entries) (count_by (is_occupied own trees) pieces)

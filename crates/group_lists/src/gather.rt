@@ -50,7 +50,7 @@ impl<T: Terms> Model for Gather<T> {
     ghost invariant = { λ g. IsGathered T.theta T.grid T.particles
         (gathering_of g.rank g.bodies.items (map (λ l. l.group) g.listed.items) (map (λ t. t.src) g.trees.items))
         (map (λ l. l.entries.items) g.listed.items) g.count
-        × CanAbsorb T.theta
+        × CanAbsorb T.theta T.grid T.particles
         (gathering_of g.rank g.bodies.items (map (λ l. l.group) g.listed.items) (map (λ t. t.src) g.trees.items))
         g.theta g.trees.items };
 }

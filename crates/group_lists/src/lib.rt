@@ -6,6 +6,7 @@
 mod absorbing;
 mod gather;
 mod keyed_tree;
+mod laws;
 mod listed;
 mod lists;
 mod merging;

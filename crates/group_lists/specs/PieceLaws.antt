@@ -1,0 +1,54 @@
+-- Laws of pieces, which are the lists of groups over one source more.
+use Rattle.std.specs.Prelude.{◌≡◌, ℕ, ◌+◌, ◌≤◌, List, length, count_by, All, IsPermutation}
+use Rattle.pf_model.specs.declared.limits.TheConstants.{MOST_PARTICLES}
+use Rattle.pf_model.specs.Particle.{Particle, IsParticle}
+use Rattle.pf_model.specs.Particles.{AreBodies}
+use Rattle.pf_model.specs.Criterion.{Criterion}
+use Rattle.pf_model.specs.Division.{Division, IsDivision}
+use Rattle.pf_model.specs.Domains.{particles_of}
+use Rattle.pf_model.specs.Interaction.{IsInListOrder}
+use Rattle.pf_model.specs.Merging.{merged, common_count}
+use Rattle.pf_model.specs.EssentialTree.{Essential}
+use Rattle.morton_tree.specs.declared.group.Group.{Group}
+use Rattle.group_lists.specs.Gathering.{Gathering, with_source, IsNewSource, IsGroupOf, IsSentTo, CanAbsorb, partial_list}
+use Rattle.group_lists.specs.Gathering.{source_list}
+use Rattle.group_lists.specs.Keyed.{IsServed}
+use Rattle.group_lists.specs.Pieces.{HaveFewMembers, is_occupied}
+
+-- pieces are merged with the list of the group into its list with this source, which is longer by the pieces that
+-- have no cell in common with it
+abbrev pub PiecesMakeLists : Type 0
+PiecesMakeLists =
+    (t : Criterion) (g : Division) (js : List Particle) (gather : Gathering) (src : ℕ) (group : Group) →
+    AreBodies js → IsNewSource g gather src →
+    let pieces = source_list t g js src group in
+    let before = partial_list t g js gather group in
+    let after = partial_list t g js (with_source gather src) group in
+    (merged pieces before ≡ after) × (length after + common_count pieces before ≡ length pieces + length before) ×
+    (length after ≤ MOST_PARTICLES)
+
+-- both lists are in order, and few members lead to any two of their cells
+abbrev pub PiecesAreInOrder : Type 0
+PiecesAreInOrder =
+    (t : Criterion) (g : Division) (js : List Particle) (gather : Gathering) (src : ℕ) (group : Group) →
+    AreBodies js → IsNewSource g gather src →
+    let pieces = source_list t g js src group in
+    let before = partial_list t g js gather group in
+    IsInListOrder pieces × IsInListOrder before × HaveFewMembers pieces before × (length pieces ≤ MOST_PARTICLES)
+
+-- the pieces that have a cell in common with the list are those in whose cell something stands that was gathered
+abbrev pub CommonPiecesAreOccupied : Type 0
+CommonPiecesAreOccupied =
+    (t : Criterion) (g : Division) (js : List Particle) (gather : Gathering) (src : ℕ) (group : Group)
+    (theta : Criterion) (trees : List Essential) → AreBodies js → IsNewSource g gather src →
+    IsPermutation gather.own (particles_of g js gather.rank) → CanAbsorb t g js gather theta trees →
+    IsServed g js gather.rank group.around →
+    let pieces = source_list t g js src group in
+    count_by (is_occupied gather.own trees) pieces ≡ common_count pieces (partial_list t g js gather group)
+
+-- the essential trees that were sent to a rank serve the boxes of its groups
+abbrev pub GroupsAreServed : Type 0
+GroupsAreServed =
+    (g : Division) (js : List Particle) (gather : Gathering) (group : Group) → IsDivision g → All IsParticle js →
+    IsPermutation gather.own (particles_of g js gather.rank) → IsGroupOf gather.own group →
+    IsServed g js gather.rank group.around
