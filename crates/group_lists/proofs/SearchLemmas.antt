@@ -1,5 +1,5 @@
 -- What a search by halves finds: whether any element passes a test.
-use Rattle.std.proofs.Common.{◌≡◌, ℕ, ◌<◌, ◌≤◌, Bool, true, false, List, length, get_or, inl, inr, sym, ◌∙◌, ap, arith}
+use Rattle.std.proofs.Common.{◌≡◌, ℕ, ◌<◌, ◌≤◌, Bool, true, false, ◌||◌, List, [], ◌∷◌, length, get_or, map, inl, inr, refl, sym, ◌∙◌, ap, arith}
 use Rattle.std.specs.List.{list_any}
 use Rattle.std.specs.List.Sorted.{IsPartitionPoint}
 use Rattle.std.proofs.lemmas.Bool.{cases_lt, both_ways, false_from_ne_true}
@@ -25,3 +25,7 @@ found_at {X} p q xs place x false h point within at e =
           let here = h.first place k d more inside (point.1 place d (omega arith) within) passes in
           absurd (both_ways (q x) e (ap q (sym at ∙ get_or_default xs place x d within) ∙ here))
     ]))
+
+pub list_any_map : {X Y : Type 0} (p : Y → Bool) (h : X → Y) (xs : List X) → list_any p (map h xs) ≡ list_any (λ x. p (h x)) xs
+list_any_map p h [] = refl
+list_any_map p h (x ∷ xs) = ap (λ (b : Bool). p (h x) || b) (list_any_map p h xs)

@@ -24,17 +24,17 @@ PiecesMakeLists =
     let pieces = source_list t g js src group in
     let before = partial_list t g js gather group in
     let after = partial_list t g js (with_source gather src) group in
-    (merged pieces before ≡ after) × (length after + common_count pieces before ≡ length pieces + length before) ×
-    (length after ≤ MOST_PARTICLES)
+    (merged pieces before ≡ after) × (length after + common_count pieces before ≡ length pieces + length before)
 
--- both lists are in order, and few members lead to any two of their cells
+-- both lists are short and in order, and any two of their cells have few members together
 abbrev pub PiecesAreInOrder : Type 0
 PiecesAreInOrder =
     (t : Criterion) (g : Division) (js : List Particle) (gather : Gathering) (src : ℕ) (group : Group) →
     AreBodies js → IsNewSource g gather src →
     let pieces = source_list t g js src group in
     let before = partial_list t g js gather group in
-    IsInListOrder pieces × IsInListOrder before × HaveFewMembers pieces before × (length pieces ≤ MOST_PARTICLES)
+    IsInListOrder pieces × IsInListOrder before × HaveFewMembers pieces before ×
+    (length pieces ≤ MOST_PARTICLES) × (length before ≤ MOST_PARTICLES)
 
 -- the pieces that have a cell in common with the list are those in whose cell something stands that was gathered
 abbrev pub CommonPiecesAreOccupied : Type 0

@@ -1,8 +1,10 @@
 ghost use Rattle.std.specs.Prelude.{◌≡◌, ◌-◌, ◌/◌, ◌^◌, ◌<◌, ◌≤◌, IfOk, All, length, map};
 ghost use Rattle.std.specs.List.{list_any};
+ghost use Rattle.std.specs.List.Sorted.{IsNonDecreasing};
 ghost use Rattle.pf_geom.specs.Octant.{cell_at};
 ghost use Rattle.pf_model.specs.Interaction.{is_cell};
 ghost use Rattle.pf_model.specs.Sufficiency.{entry_moment, moment_together};
+ghost use Rattle.cell_runs.specs.Finding.{cell_of_key};
 ghost use Rattle.group_lists.specs.Keyed.{item_position, item_key, item_sums};
 
 use pf_geom::{Cell, DEEPEST, corner, key_of};
@@ -61,13 +63,19 @@ impl<T: Terms> KeyedTree<T> {
     pub fn has_items_in(&self, cell: Cell) -> bool
         ensures { result ≡ list_any (λ item. is_cell cell (cell_at (item_position item) cell.level)) self.now.items }
     {
-        let place = self
-            .keys
-            .partition_point(|key| cell_key(*key, cell.level) < cell.key);
-        match self.keys.get(place) {
-            Some(key) => cell_key(*key, cell.level) == cell.key,
-            None => false,
-        }
+        has_key_in(&self.keys, cell)
+    }
+}
+
+// Whether one of some ascending keys is in a cell.
+fn has_key_in(keys: &[u128], cell: Cell) -> bool
+    requires { IsNonDecreasing keys.now }
+    ensures { result ≡ list_any (λ key. is_cell cell (cell_of_key key cell.level)) keys.now }
+{
+    let place = keys.partition_point(|key| cell_key(*key, cell.level) < cell.key);
+    match keys.get(place) {
+        Some(key) => cell_key(*key, cell.level) == cell.key,
+        None => false,
     }
 }
 

@@ -17,14 +17,13 @@ pub(crate) fn pieces_make_lists()
     lists_merge();
     merged_lists_share_cells();
     lists_ignore_order();
-    lists_are_short();
     ranks_have_their_own();
     one_rank_has_its_own();
     some_have_distinct_ids();
     distinct_ids_ignore_order();
 }
 
-// The pieces and the list of a group are in order, and few members lead to any two of their cells.
+// The pieces and the list of a group are short and in order, and any two of their cells have few members together.
 pub(crate) fn pieces_are_in_order()
     ensures { PiecesAreInOrder }
 {

@@ -46,7 +46,7 @@ fn has_bodies_in(bodies: &[Body], cell: Cell) -> bool
 {
     let place = bodies.partition_point(|body| cell_of(body.at, cell.level).key < cell.key);
     match bodies.get(place) {
-        Some(body) => cell_of(body.at, cell.level) == cell,
+        Some(body) => cell_of(body.at, cell.level).key == cell.key,
         None => false,
     }
 }
