@@ -3,7 +3,8 @@ use Rattle.std.proofs.Common.{◌≡◌, ℕ, zero, suc, ◌+◌, ◌*◌, ◌^�
 use Rattle.std.specs.List.{sum_by, All, count_by, list_any}
 use Rattle.std.specs.List.Sorted.{IsPermutation}
 use Rattle.std.proofs.lemmas.Bool.{cases_lt, cases_eq}
-use Rattle.std.proofs.lemmas.List.{length-map, length-set, get_or-map, get_or_default, map-set, set-get_or, get_or-set_same, get_or-set_other, take_all, drop_all}
+use Rattle.std.proofs.lemmas.List.{length-map, length-set, get_or-map, get_or_default, map-set, set-get_or, get_or-set_same, get_or-set_other, take_all, drop_all, append-nil, map-append}
+use Rattle.std.proofs.lemmas.List.Elements.{All-nil, All-push}
 use Rattle.std.proofs.lemmas.List.Sums.{sum_by-cons, sum_by_more, sum_by-drop_more, sum_by-set, sum_by-le, count_by-le-length}
 use Rattle.pf_model.specs.declared.entry.Entry.{Entry}
 use Rattle.pf_model.specs.Particle.{Particle, IsParticle}
@@ -15,8 +16,10 @@ use Rattle.pf_model.specs.Interaction.{IsInListOrder}
 use Rattle.pf_model.specs.Merging.{merged, is_level, common_count}
 use Rattle.pf_model.specs.EssentialTree.{Essential}
 use Rattle.morton_tree.specs.declared.group.Group.{Group}
+use Rattle.morton_tree.specs.Tree.{IsInKeyOrder}
 use Rattle.group_lists.specs.declared.listed.Listed.{Listed}
-use Rattle.group_lists.specs.Gathering.{Gathering, with_source, IsNewSource, IsGroupOf, CanAbsorb, partial_list, source_list}
+use Rattle.group_lists.specs.Gathering.{Gathering, gathering_of, own_gathering, with_source, IsNewSource, IsGroupOf, IsSentTo, CanAbsorb, IsGathered}
+use Rattle.group_lists.specs.Gathering.{partial_list, source_list}
 use Rattle.group_lists.specs.Keyed.{IsServed}
 use Rattle.group_lists.specs.Pieces.{HaveFewMembers, is_occupied, common_with}
 use Rattle.group_lists.specs.PieceLaws.{PiecesMakeLists, PiecesAreInOrder, CommonPiecesAreOccupied, GroupsAreServed}
@@ -243,3 +246,49 @@ tests_more t g js src groups k listed one first from to pieces same within at so
 pub tests_all : (t : Criterion) (g : Division) (js : List Particle) (src : ℕ) (groups : List Group) (k first to : ℕ) → length groups ≤ k → to ≤ first + 31 * sum_by (λ group. length (source_list t g js src group)) (take k groups) →
     to ≤ first + 31 * sum_by (λ group. length (source_list t g js src group)) groups
 tests_all t g js src groups k first to done so_far = let all = ap (sum_by (λ (group : Group). length (source_list t g js src group))) (take_all k groups done) in omega arith
+
+-- a list of which all was written over
+whole_again : {X : Type 0} (old new : List X) (len : ℕ) → len ≡ length old → length new ≡ length old → take len (new ++ drop (length new) old) ≡ new
+whole_again old new len is same =
+    ap (λ (l : List _). take len (new ++ l)) (drop_all (length new) old (omega arith)) ∙ ap (take len) (append-nil new) ∙ take_all len new (omega arith)
+
+-- what a gather keeps once it has absorbed a tree
+pub absorbed_all : (t : Criterion) (g : Division) (js : List Particle) (rank : ℕ) (own : List Particle) (old new : List Listed) (len : ℕ) (trees pushed : List Essential) (tree : Essential) (count : ℕ) (theta : Criterion) →
+    len ≡ length old → map group_of new ≡ map group_of old → IsGathered t g js (with_source (gathering_of tree.dst own (map group_of old) (map (λ s. s.src) trees)) tree.src) (map entries_of new) count →
+    CanAbsorb t g js (gathering_of rank own (map group_of old) (map (λ s. s.src) trees)) theta trees → IsSentTo t g js rank tree → pushed ≡ trees ++ tree ∷ [] →
+    IsGathered t g js (gathering_of rank own (map group_of (take len (new ++ drop (length new) old))) (map (λ s. s.src) pushed)) (map entries_of (take len (new ++ drop (length new) old))) count
+    × CanAbsorb t g js (gathering_of rank own (map group_of (take len (new ++ drop (length new) old))) (map (λ s. s.src) pushed)) theta pushed
+absorbed_all t g js rank own old new len trees pushed tree count theta len_is same gathered absorbs sent pushed_are =
+    let src_of : Essential → ℕ = λ s. s.src in
+    let same_long : length new ≡ length old = sym (length-map new group_of) ∙ ap length same ∙ length-map old group_of in
+    let whole = whole_again old new len len_is same_long in
+    let groups = ap (map group_of) whole ∙ same in
+    let sources : map src_of pushed ≡ map src_of trees ++ tree.src ∷ [] = ap (map src_of) pushed_are ∙ map-append src_of trees (tree ∷ []) in
+    let gather : gathering_of rank own (map group_of (take len (new ++ drop (length new) old))) (map src_of pushed) ≡ with_source (gathering_of tree.dst own (map group_of old) (map src_of trees)) tree.src =
+    λ i. gathering_of (sym sent.here i) own (groups i) (sources i) in (
+      subst (λ (ga : Gathering). IsGathered t g js ga (map entries_of (take len (new ++ drop (length new) old))) count) (sym gather)
+      (subst (λ (ls : List Listed). IsGathered t g js (with_source (gathering_of tree.dst own (map group_of old) (map src_of trees)) tree.src) (map entries_of ls) count) (sym whole) gathered),
+      record {
+        criterion = absorbs.criterion;
+        ordered = absorbs.ordered;
+        sources = refl;
+        sent = subst (All (IsSentTo t g js rank)) (sym pushed_are) (All-push (IsSentTo t g js rank) trees tree absorbs.sent sent);
+      },
+    )
+
+-- what a gather keeps before it has absorbed any
+pub opened_all : (t : Criterion) (g : Division) (js : List Particle) (rank : ℕ) (own bodies : List Particle) (groups : List Group) (listed : List Listed) (trees : List Essential) (count : ℕ) (theta : Criterion) →
+    bodies ≡ own → map group_of listed ≡ groups → trees ≡ [] → theta ≡ t → IsInKeyOrder own → IsGathered t g js (own_gathering rank own groups) (map entries_of listed) count →
+    IsGathered t g js (gathering_of rank bodies (map group_of listed) (map (λ s. s.src) trees)) (map entries_of listed) count
+    × CanAbsorb t g js (gathering_of rank bodies (map group_of listed) (map (λ s. s.src) trees)) theta trees
+opened_all t g js rank own bodies groups listed trees count theta bodies_are groups_are none criterion order gathered =
+    let src_of : Essential → ℕ = λ s. s.src in
+    let gather : gathering_of rank bodies (map group_of listed) (map src_of trees) ≡ own_gathering rank own groups = λ i. gathering_of rank (bodies_are i) (groups_are i) (map src_of (none i)) in (
+      subst (λ (ga : Gathering). IsGathered t g js ga (map entries_of listed) count) (sym gather) gathered,
+      record {
+        criterion = criterion;
+        ordered = subst IsInKeyOrder (sym bodies_are) order;
+        sources = refl;
+        sent = subst (All (IsSentTo t g js rank)) (sym none) (All-nil (IsSentTo t g js rank));
+      },
+    )

@@ -1,6 +1,7 @@
 pub mod CellLemmas
 pub mod SearchLemmas
 pub mod KeyedLemmas
+pub mod TotalLemmas
 pub mod MergeLemmas
 pub mod OrderLemmas
 pub mod RunLemmas

@@ -5,10 +5,14 @@ ghost use Rattle.pf_geom.specs.Octant.{cell_at};
 ghost use Rattle.pf_model.specs.Interaction.{is_cell};
 ghost use Rattle.pf_model.specs.Sufficiency.{entry_moment, moment_together};
 ghost use Rattle.cell_runs.specs.Finding.{cell_of_key};
+ghost use Rattle.group_lists.specs.Gathering.{IsSentTo};
 ghost use Rattle.group_lists.specs.Keyed.{item_position, item_key, item_sums};
 
 use pf_geom::{Cell, DEEPEST, corner, key_of};
-use pf_model::{Entry, EssTree, MOST_PARTICLES, Moment, Terms, lists_are_short, lists_merge};
+use pf_model::{
+    Entry, EssTree, MOST_PARTICLES, Moment, Terms, lists_are_short, lists_merge,
+    some_have_distinct_ids,
+};
 use pf_num::OutOfMemory;
 use std::alloc::Global;
 use std::marker::{Model, PhantomData};
@@ -41,10 +45,11 @@ impl<T: Terms> KeyedTree<T> {
     // Puts the items of an essential tree into the order of their keys.
     pub fn of(alloc: Global, tree: EssTree<T>) -> Result<KeyedTree<T>, OutOfMemory>
         ensures src { IfOk result (λ keyed. keyed.src ≡ tree.src) }
-        ensures dst { IfOk result (λ keyed. keyed.dst ≡ tree.dst) }
+        ensures sent { IfOk result (λ keyed. IsSentTo T.theta T.grid T.particles tree.dst keyed) }
     {
         lists_are_short();
         lists_merge();
+        some_have_distinct_ids();
         let mut items = tree.items;
         items.sort_unstable_by_key(|item| item_key(item));
         let keys = keys_of(alloc, &items)?;
