@@ -2,6 +2,7 @@ pub mod CellLemmas
 pub mod SearchLemmas
 pub mod KeyedLemmas
 pub mod TotalLemmas
+pub mod PieceLemmas
 pub mod MergeLemmas
 pub mod OrderLemmas
 pub mod RunLemmas

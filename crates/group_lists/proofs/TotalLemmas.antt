@@ -27,7 +27,7 @@ use Rattle.pf_model.specs.Sufficiency.{entry_moment, moment_together}
 abbrev pub entry_count : Entry → ℕ
 entry_count e = (entry_moment e).count
 
-counted_by : (js : List Particle) → (moment_of js).count ≡ length js
+pub counted_by : (js : List Particle) → (moment_of js).count ≡ length js
 unfolding moment_of
 counted_by js = refl
 
@@ -82,7 +82,7 @@ list_total merge t box (j ∷ js) distinct =
     let rest = list_total merge t box js (distinct_rest j js distinct) in
     omega arith
 
-length-filter-le : (test : Particle → Bool) (js : List Particle) → length (filter test js) ≤ length js
+pub length-filter-le : (test : Particle → Bool) (js : List Particle) → length (filter test js) ≤ length js
 length-filter-le test [] = omega arith
 length-filter-le test (j ∷ js) =
     let rest = length-filter-le test js in
