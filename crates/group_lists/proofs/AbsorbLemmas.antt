@@ -267,7 +267,7 @@ absorbed_all t g js rank own old new len trees pushed tree count theta len_is sa
     let gather : gathering_of rank own (map group_of (take len (new ++ drop (length new) old))) (map src_of pushed) ≡ with_source (gathering_of tree.dst own (map group_of old) (map src_of trees)) tree.src =
     λ i. gathering_of (sym sent.here i) own (groups i) (sources i) in (
       subst (λ (ga : Gathering). IsGathered t g js ga (map entries_of (take len (new ++ drop (length new) old))) count) (sym gather)
-      (subst (λ (ls : List Listed). IsGathered t g js (with_source (gathering_of tree.dst own (map group_of old) (map src_of trees)) tree.src) (map entries_of ls) count) (sym whole) gathered),
+          (subst (λ (ls : List Listed). IsGathered t g js (with_source (gathering_of tree.dst own (map group_of old) (map src_of trees)) tree.src) (map entries_of ls) count) (sym whole) gathered),
       record {
         criterion = absorbs.criterion;
         ordered = absorbs.ordered;

@@ -3,6 +3,8 @@ pub mod SearchLemmas
 pub mod KeyedLemmas
 pub mod TotalLemmas
 pub mod PieceLemmas
+pub mod PositionLemmas
+pub mod OccupiedLemmas
 pub mod MergeLemmas
 pub mod OrderLemmas
 pub mod RunLemmas

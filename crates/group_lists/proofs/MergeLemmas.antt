@@ -4,6 +4,8 @@ use Rattle.std.specs.List.{AllPairs, Contains, list_any}
 use Rattle.std.specs.List.Sorted.{IsPartitionedBy, IsPartitionPoint}
 use Rattle.std.proofs.lemmas.Bool.{cases_lt, cases_order, cond-true, cond-false, cond_both, ltb-true, ltb-false, lt-ltb, le-ltb, eqb-true, eqb-false, eq-eqb, or_cases, or_parts, or_left, or_right, and_parts, and_from, and_cases, false≢true, true≢false, false_from_ne_true, both_ways, not-true, not_from_false}
 use Rattle.std.proofs.lemmas.List.{drop_more, drop_all, length-drop, get_or_default, append_assoc, append-nil}
+use Rattle.pf_geom.specs.Octant.{Octant}
+use Rattle.pf_model.specs.Totals.{Totals}
 use Rattle.pf_model.specs.declared.entry.Entry.{Entry}
 use Rattle.pf_model.specs.declared.entry.Entry.TheVariants.{Cell, One}
 use Rattle.pf_model.specs.Interaction.{comes_before, IsInListOrder}
@@ -66,6 +68,12 @@ not_before_itself (One p) h = let less = ltb-true p.id p.id h in absurd (omega a
 
 pub not_after : (e f : Entry) → comes_before e f ≡ true → comes_before f e ≡ false
 not_after e f h = false_from_ne_true (comes_before f e) (λ k. not_before_itself e (before_chain e f e h k))
+
+-- cells at one place are one
+pub level_octant : (c d : Octant) (m n : Totals) → comes_before (Cell c m) (Cell d n) ≡ false → comes_before (Cell d n) (Cell c m) ≡ false → d ≡ c
+level_octant c d m n h k =
+    let same = pair_level c.level c.key d.level d.key (not_pair c.level c.key d.level d.key h) (not_pair d.level d.key c.level c.key k) in
+    λ i. record { level = sym same.0 i; key = sym same.1 i }
 
 -- what comes after an entry comes after one that stands at its place
 pub level_before : (e f g : Entry) → comes_before e f ≡ false → comes_before f e ≡ false → comes_before e g ≡ true → comes_before f g ≡ true

@@ -4,10 +4,14 @@
 ghost use Rattle.group_lists.specs.PieceLaws.{PiecesMakeLists, PiecesAreInOrder, CommonPiecesAreOccupied};
 ghost use Rattle.group_lists.specs.PieceLaws.{GroupsAreServed};
 
+use pf_geom::{
+    cells_of_a_position_nest, corners_lie_inside, positions_have_cells, positions_share_lower_cells,
+};
 use pf_model::{
-    boxes_lie_in_domains, distinct_ids_ignore_order, lists_are_short, lists_hold_first_cells,
-    lists_hold_their_entries, lists_ignore_order, lists_merge, merged_lists_share_cells,
-    one_rank_has_its_own, ranks_have_their_own, some_have_distinct_ids,
+    boxes_lie_in_domains, cells_pass_for_boxes_inside, distinct_ids_ignore_order, levels_are_least,
+    lists_are_short, lists_hold_first_cells, lists_hold_near_particles, lists_hold_their_entries,
+    lists_ignore_order, lists_merge, merged_lists_share_cells, one_rank_has_its_own,
+    particles_of_one_id_are_one, ranks_have_their_own, some_have_distinct_ids,
 };
 
 // The list of a group with one source more is its list and the pieces, merged.
@@ -39,7 +43,18 @@ pub(crate) fn pieces_are_in_order()
 pub(crate) fn common_pieces_are_occupied()
     ensures { CommonPiecesAreOccupied }
 {
+    cells_pass_for_boxes_inside();
+    cells_of_a_position_nest();
+    corners_lie_inside();
+    positions_share_lower_cells();
+    positions_have_cells();
+    levels_are_least();
+    lists_hold_their_entries();
     lists_hold_first_cells();
+    lists_hold_near_particles();
+    one_rank_has_its_own();
+    some_have_distinct_ids();
+    particles_of_one_id_are_one();
 }
 
 // The essential trees of a rank serve the boxes of its groups.
