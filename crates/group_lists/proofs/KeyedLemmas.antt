@@ -3,7 +3,8 @@ use Rattle.std.proofs.Common.{◌≡◌, ℕ, zero, suc, ◌+◌, ◌-◌, ◌*�
 use Rattle.std.specs.List.{list_any, range_with_len}
 use Rattle.std.specs.List.Sorted.{IsNonDecreasing, IsNonDecreasingBy, IsPartitionedBy}
 use Rattle.std.proofs.lemmas.List.{take_more, take-append-drop, length-map, get_or-map}
-use Rattle.std.proofs.lemmas.List.FromFn.{map-range_with_len_more}
+use Rattle.std.proofs.lemmas.List.FromFn.{map-range_with_len_more, length-map-range_with_len, get_or-map-range_with_len}
+use Rattle.std.proofs.Math.Seq.{take-add}
 use Rattle.std.proofs.Math.Nat.{pow-suc, div-mul-le_self}
 use Rattle.std.proofs.lemmas.Nat.{le-div, pow-add}
 use Rattle.std.proofs.lemmas.Int.{ints}
@@ -12,8 +13,8 @@ use Rattle.pf_geom.specs.Octant.{Octant, cell_at}
 use Rattle.pf_geom.specs.Key.{morton_key}
 use Rattle.pf_model.specs.declared.entry.Entry.{Entry}
 use Rattle.pf_model.specs.Particle.{Particle}
-use Rattle.pf_model.specs.Totals.{Totals}
-use Rattle.pf_model.specs.Sums.{moment_of, together, pairwise_sums}
+use Rattle.pf_model.specs.Totals.{Totals, IsTotals}
+use Rattle.pf_model.specs.Sums.{moment_of, together, pairwise_sums, IsRest}
 use Rattle.pf_model.specs.Interaction.{is_cell}
 use Rattle.pf_model.specs.Sufficiency.{entry_moment, moment_together}
 use Rattle.morton_tree.specs.Tree.{IsInKeyOrder}
@@ -171,3 +172,21 @@ keys_ascend items keys keyed up i j d least within =
           let high = at j l in
           omega arith
     ] keyed up inside
+
+pub sums_long : (items : List Entry) (sums : List Totals) → sums ≡ first_sums items (length items + 1) → length sums ≡ length items + 1
+sums_long items sums is = ap (λ (ms : List Totals). length ms) is ∙ length-map-range_with_len (λ k. moment_together (take k items)) 0 (length items + 1)
+
+pub sum_at : (items : List Entry) (sums : List Totals) (k : ℕ) (m : Totals) → sums ≡ first_sums items (length items + 1) → k ≤ length items → m ≡ get_or sums k m → m ≡ moment_together (take k items)
+sum_at items sums k m is within at =
+    at ∙ ap (λ (ms : List Totals). get_or ms k m) is ∙ get_or-map-range_with_len (λ n. moment_together (take n items)) 0 (length items + 1) k k m (omega arith) (omega arith)
+
+-- the sum over the items through a place is that before another and that between
+pub sum_between : (items : List Entry) (sums : List Totals) (first len : ℕ) (through before : Totals) → sums ≡ first_sums items (length items + 1) → first + len ≤ length items → through ≡ get_or sums (first + len) through → before ≡ get_or sums first before →
+    IsTotals (moment_together (take len (drop first items))) → IsRest through before (moment_together (take len (drop first items)))
+sum_between items sums first len through before is within at_through at_before limits = record {
+  limits = limits;
+  makes =
+      sum_at items sums (first + len) through is within at_through ∙ ap moment_together (take-add first len items)
+      ∙ together-append (take first items) (take len (drop first items))
+      ∙ ap (λ (m : Totals). together m (moment_together (take len (drop first items)))) (sym (sum_at items sums first before is (omega arith) at_before));
+}

@@ -10,3 +10,4 @@ pub mod OrderLemmas
 pub mod RunLemmas
 pub mod GatherLemmas
 pub mod AbsorbLemmas
+pub mod PieceRunLemmas

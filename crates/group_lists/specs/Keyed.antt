@@ -1,11 +1,12 @@
 -- Essential trees with their items in key order.
-use Rattle.std.specs.Prelude.{◌≡◌, ℕ, ◌+◌, ◌^◌, ◌<◌, ◌≤◌, List, length, map, take, All, IsPermutation}
+use Rattle.std.specs.Prelude.{◌≡◌, ℕ, ◌+◌, ◌^◌, ◌<◌, ◌≤◌, List, length, map, take, drop, Option, Some, None, All}
+use Rattle.std.specs.Prelude.{IsPermutation, slice_index_or}
 use Rattle.std.specs.List.{range_with_len}
 use Rattle.std.specs.List.Sorted.{IsNonDecreasing}
 use Rattle.pf_geom.specs.Position.{Position}
 use Rattle.pf_geom.specs.Bounds.{Bounds, IsBox, IsWithin}
 use Rattle.pf_geom.specs.Key.{morton_key}
-use Rattle.pf_geom.specs.Octant.{corner_of}
+use Rattle.pf_geom.specs.Octant.{cell_at, corner_of}
 use Rattle.pf_model.specs.declared.entry.Entry.{Entry}
 use Rattle.pf_model.specs.declared.entry.Entry.TheVariants.{Cell, One}
 use Rattle.pf_model.specs.declared.limits.TheConstants.{MOST_PARTICLES}
@@ -16,6 +17,7 @@ use Rattle.pf_model.specs.Totals.{Totals}
 use Rattle.pf_model.specs.Domains.{particles_of, domain_box}
 use Rattle.pf_model.specs.EssentialTree.{Essential, essential_tree}
 use Rattle.pf_model.specs.Sufficiency.{moment_together}
+use Rattle.cell_runs.specs.declared.cell_run.CellRun.{CellRun}
 
 -- where an item stands in key order: at the corner of its cell, or where the particle is
 abbrev pub item_position : Entry → Position
@@ -45,3 +47,14 @@ pub record IsServed (g : Division) (js : List Particle) (dst : ℕ) (box : Bound
   pub inner : IsBox box
   pub outer : IsBox (domain_box g js dst)
   pub within : IsWithin box (domain_box g js dst)
+
+-- the items of a run
+abbrev pub items_at : CellRun → List Entry → List Entry
+items_at r items = take r.len (drop r.first items)
+
+-- the piece that a run of items with this level makes: the cell of the first with the moment of all, or the one item
+abbrev pub IsPieceOfRun : List Entry → CellRun → Option ℕ → Entry → Type 0
+IsPieceOfRun items r None e = slice_index_or items r.first e ≡ e
+IsPieceOfRun items r (Some level) e =
+    (item : Entry) → slice_index_or items r.first item ≡ item →
+    e ≡ Cell (cell_at (item_position item) level) (moment_together (items_at r items))

@@ -1,19 +1,29 @@
 -- Laws of pieces, which are the lists of groups over one source more.
-use Rattle.std.specs.Prelude.{◌≡◌, ℕ, ◌+◌, ◌≤◌, List, length, count_by, All, IsPermutation}
+use Rattle.std.specs.Prelude.{◌≡◌, ℕ, ◌+◌, ◌≤◌, List, length, map, count_by, All, IfSome}
+use Rattle.std.specs.Prelude.{IsPermutation}
+use Rattle.std.specs.List.{AllZip}
+use Rattle.pf_geom.specs.declared.cell.TheConstants.{DEEPEST}
+use Rattle.pf_geom.specs.Bounds.{Bounds}
+use Rattle.pf_model.specs.declared.entry.Entry.{Entry}
 use Rattle.pf_model.specs.declared.limits.TheConstants.{MOST_PARTICLES}
 use Rattle.pf_model.specs.Particle.{Particle, IsParticle}
 use Rattle.pf_model.specs.Particles.{AreBodies}
 use Rattle.pf_model.specs.Criterion.{Criterion}
 use Rattle.pf_model.specs.Division.{Division, IsDivision}
 use Rattle.pf_model.specs.Domains.{particles_of}
-use Rattle.pf_model.specs.Interaction.{IsInListOrder}
+use Rattle.pf_model.specs.Totals.{IsTotals}
+use Rattle.pf_model.specs.Interaction.{IsInListOrder, list_of}
 use Rattle.pf_model.specs.Merging.{merged, common_count}
 use Rattle.pf_model.specs.EssentialTree.{Essential}
+use Rattle.pf_model.specs.Sufficiency.{moment_together}
 use Rattle.morton_tree.specs.declared.group.Group.{Group}
 use Rattle.group_lists.specs.Gathering.{Gathering, with_source, IsNewSource, IsGroupOf, IsSentTo, CanAbsorb, partial_list}
 use Rattle.group_lists.specs.Gathering.{source_list}
-use Rattle.group_lists.specs.Keyed.{IsServed}
+use Rattle.group_lists.specs.Keyed.{IsServed, item_position, items_at, IsPieceOfRun}
 use Rattle.group_lists.specs.Pieces.{HaveFewMembers, is_occupied}
+use Rattle.group_lists.specs.Runs.{HasEntriesOf}
+use Rattle.cell_runs.specs.declared.cell_run.CellRun.{CellRun}
+use Rattle.cell_runs.specs.CellRuns.{AreCellRuns}
 
 -- pieces are merged with the list of the group into its list with this source, which is longer by the pieces that
 -- have no cell in common with it
@@ -52,3 +62,15 @@ GroupsAreServed =
     (g : Division) (js : List Particle) (gather : Gathering) (group : Group) → IsDivision g → All IsParticle js →
     IsPermutation gather.own (particles_of g js gather.rank) → IsGroupOf gather.own group →
     IsServed g js gather.rank group.around
+
+-- each run of items, seen from a box that their tree serves, has limits that its moment keeps; and the pieces that all
+-- runs make are the entries that the source's particles lead to, one piece for each entry
+abbrev pub ItemsMakePieces : Type 0
+ItemsMakePieces =
+    (t : Criterion) (g : Division) (js : List Particle) (tree : Essential) (box : Bounds) (runs : List CellRun) →
+    AreBodies js → All IsParticle js → IsServed g js tree.dst box → IsSentTo t g js tree.dst tree →
+    AreCellRuns t box (map item_position tree.items) runs →
+    All (λ r. IfSome r.level (λ level. (level ≤ DEEPEST) × IsTotals (moment_together (items_at r tree.items)))) runs ×
+    ((pieces : List Entry) → AllZip (λ r e. IsPieceOfRun tree.items r r.level e) runs pieces →
+    HasEntriesOf t box (particles_of g js tree.src) pieces ×
+    (length pieces ≤ length (list_of t box (particles_of g js tree.src))))

@@ -1,7 +1,8 @@
-ghost use Rattle.std.specs.Prelude.{◌≡◌, ◌-◌, ◌/◌, ◌^◌, ◌<◌, ◌≤◌, IfOk, All, length, map};
+ghost use Rattle.std.specs.Prelude.{◌≡◌, ◌-◌, ◌/◌, ◌^◌, ◌<◌, ◌≤◌, ◌+◌, IfOk, All, length, map, take, drop};
 ghost use Rattle.std.specs.List.{list_any};
 ghost use Rattle.std.specs.List.Sorted.{IsNonDecreasing};
 ghost use Rattle.pf_geom.specs.Octant.{cell_at};
+ghost use Rattle.pf_model.specs.Totals.{IsTotals};
 ghost use Rattle.pf_model.specs.Interaction.{is_cell};
 ghost use Rattle.pf_model.specs.Sufficiency.{entry_moment, moment_together};
 ghost use Rattle.cell_runs.specs.Finding.{cell_of_key};
@@ -62,6 +63,17 @@ impl<T: Terms> KeyedTree<T> {
             sums,
             terms: PhantomData,
         })
+    }
+
+    // The moment of `len` items from place `first` on.
+    pub fn moment(&self, first: u32, len: u32) -> Moment
+        requires within { first + len ≤ length self.now.items }
+        requires limits { IsTotals (moment_together (take len (drop first self.now.items))) }
+        ensures { result ≡ moment_together (take len (drop first self.now.items)) }
+    {
+        let before = self.sums[first as usize];
+        let through = self.sums[(first + len) as usize];
+        through.without(before)
     }
 
     // Whether an item has its place in a cell.

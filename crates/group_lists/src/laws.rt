@@ -2,15 +2,17 @@
 // law calls its function.
 
 ghost use Rattle.group_lists.specs.PieceLaws.{PiecesMakeLists, PiecesAreInOrder, CommonPiecesAreOccupied};
-ghost use Rattle.group_lists.specs.PieceLaws.{GroupsAreServed};
+ghost use Rattle.group_lists.specs.PieceLaws.{GroupsAreServed, ItemsMakePieces};
 
+use cell_runs::{runs_hold_each_place, runs_rise};
 use pf_geom::{
     cells_of_a_position_nest, corners_lie_inside, positions_have_cells, positions_share_lower_cells,
 };
 use pf_model::{
-    boxes_lie_in_domains, cells_pass_for_boxes_inside, distinct_ids_ignore_order, levels_are_least,
-    lists_are_short, lists_hold_first_cells, lists_hold_near_particles, lists_hold_their_entries,
-    lists_ignore_order, lists_merge, merged_lists_share_cells, one_rank_has_its_own,
+    boxes_lie_in_domains, cells_pass_for_boxes_inside, distinct_ids_ignore_order,
+    entries_add_up_their_items, levels_are_least, lists_are_short, lists_hold_first_cells,
+    lists_hold_near_particles, lists_hold_their_entries, lists_ignore_order, lists_merge,
+    merged_lists_share_cells, moments_keep_their_limits, one_rank_has_its_own,
     particles_of_one_id_are_one, ranks_have_their_own, some_have_distinct_ids,
 };
 
@@ -62,4 +64,22 @@ pub(crate) fn groups_are_served()
     ensures { GroupsAreServed }
 {
     boxes_lie_in_domains();
+}
+
+// The pieces that runs of items make are the entries of the source's particles, each once.
+pub(crate) fn items_make_pieces()
+    ensures { ItemsMakePieces }
+{
+    cells_pass_for_boxes_inside();
+    cells_of_a_position_nest();
+    corners_lie_inside();
+    positions_share_lower_cells();
+    positions_have_cells();
+    levels_are_least();
+    lists_hold_their_entries();
+    some_have_distinct_ids();
+    entries_add_up_their_items();
+    moments_keep_their_limits();
+    runs_hold_each_place();
+    runs_rise();
 }

@@ -51,7 +51,7 @@ pub(crate) fn list_over<L: Ledger>(
 }
 
 // Puts the entries that particles lead to into the order of lists, each once.
-fn put_in_order(entries: &mut Vec<Entry>)
+pub(crate) fn put_in_order(entries: &mut Vec<Entry>)
     ensures { (t : Criterion) (box : Bounds) (js : List Particle) → HaveDistinctIds js
         → HasEntriesOf t box js entries.old.items → entries.new.items ≡ list_of t box js }
 {
