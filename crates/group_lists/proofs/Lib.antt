@@ -5,9 +5,11 @@ pub mod TotalLemmas
 pub mod PieceLemmas
 pub mod PositionLemmas
 pub mod OccupiedLemmas
+pub mod ApartLemmas
 pub mod MergeLemmas
 pub mod OrderLemmas
 pub mod RunLemmas
 pub mod GatherLemmas
 pub mod AbsorbLemmas
 pub mod PieceRunLemmas
+pub mod ItemLemmas

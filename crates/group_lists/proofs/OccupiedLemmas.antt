@@ -78,7 +78,7 @@ contains_kept test (y ∷ ys) x (suc k, within, at) e =
     let rest = contains_kept test ys x (k, omega arith, at) e in
     cond_both (test y) (y ∷ filter test ys) (filter test ys) (λ l. Contains l x) (λ _. contains_more y (filter test ys) x rest) (λ _. rest)
 
-head_or_rest : {X : Type 0} (y : X) (zs : List X) (x : X) → Contains (y ∷ zs) x → (y ≡ x) ⊎ Contains zs x
+pub head_or_rest : {X : Type 0} (y : X) (zs : List X) (x : X) → Contains (y ∷ zs) x → (y ≡ x) ⊎ Contains zs x
 head_or_rest y zs x (zero, within, at) = inl at
 head_or_rest y zs x (suc k, within, at) = inr (k, omega arith, at)
 
@@ -113,13 +113,13 @@ cell_entry : PositionLaws → (t : Criterion) (box : Bounds) (js : List Particle
 cell_entry laws t box js j None e = tt
 cell_entry laws t box js j (Some level) e = laws.cells j.at level (((laws.levels t box j.at).1 level).0 e).within
 
-same_octant : (c d : Octant) → is_cell c d ≡ true → d ≡ c
+pub same_octant : (c d : Octant) → is_cell c d ≡ true → d ≡ c
 same_octant c d e =
     let level = eqb-true c.level d.level (and_parts _ _ e).0 in
     let key = eqb-true c.key d.key (and_parts _ _ e).1 in
     λ i. record { level = sym level i; key = sym key i }
 
-octant_same : (c d : Octant) → d ≡ c → is_cell c d ≡ true
+pub octant_same : (c d : Octant) → d ≡ c → is_cell c d ≡ true
 octant_same c d e = and_from _ _ (eq-eqb c.level d.level (ap (λ (o : Octant). o.level) (sym e))) (eq-eqb c.key d.key (ap (λ (o : Octant). o.key) (sym e)))
 
 tree_is : (is : List Particle) (es : List Entry) → 1 ≤ length is → tree_for is es ≡ es

@@ -30,17 +30,17 @@ pub record AreNested (inner outer : Bounds) : Type 0 where
 
 module _ (laws : PositionLaws) (t : Criterion) (inner outer : Bounds) (nested : AreNested inner outer) (js : List Particle) (j : Particle) where
   -- the cell of an item passes for the inner box
-  passes_inner : (deep : ℕ) → level_of t outer j.at ≡ Some deep → Passes inner (cell_at j.at deep) t
+  pub passes_inner : (deep : ℕ) → level_of t outer j.at ≡ Some deep → Passes inner (cell_at j.at deep) t
   passes_inner deep e =
       let first = ((laws.levels t outer j.at).1 deep).0 e in
       let is : IsCell (cell_at j.at deep) = laws.cells j.at deep first.within in
       laws.inside t inner outer (cell_at j.at deep) nested.inner_is nested.outer_is nested.within is first.passes
 
-  is_deep : (deep : ℕ) → level_of t outer j.at ≡ Some deep → deep ≤ 30
+  pub is_deep : (deep : ℕ) → level_of t outer j.at ≡ Some deep → deep ≤ 30
   is_deep deep e = (((laws.levels t outer j.at).1 deep).0 e).within
 
   -- its corner is in it
-  corner_in : (deep : ℕ) → level_of t outer j.at ≡ Some deep → cell_at (corner_of (cell_at j.at deep)) deep ≡ cell_at j.at deep
+  pub corner_in : (deep : ℕ) → level_of t outer j.at ≡ Some deep → cell_at (corner_of (cell_at j.at deep)) deep ≡ cell_at j.at deep
   corner_in deep e = (laws.corners (cell_at j.at deep) (laws.cells j.at deep (is_deep deep e))).1.in_cell
 
   -- as long as no cell above passes for the inner box, the item stands in the particle's cell
