@@ -52,6 +52,9 @@ pub record ItemLaws : Type 0 where
   pub each_place : RunsHoldEachPlace
   pub rise : RunsRise
 
+more_in : {X : Type 0} (y : X) (ys : List X) (x : X) → Contains ys x → Contains (y ∷ ys) x
+more_in y ys x h = (suc h.0, (let within : h.0 < length ys = h.1 in omega arith), h.2)
+
 -- which entry an entry is
 abbrev cell_or : Octant → Entry → Octant
 cell_or d (Cell c m) = c
@@ -214,3 +217,122 @@ module _ (laws : ItemLaws) (t : Criterion) (inner outer : Bounds) (nested : AreN
           deep_of level level_is d from.0 mine,
           subst IsTotals (moment_adds_up level level_is d) (laws.limits (filter test js) (omega arith) (All-filter test IsParticle js particles)),
         )
+
+  -- two runs, one after the other, make different pieces
+  runs_differ : Apart items → (r s : CellRun) → IsCellRun t inner places r → IsCellRun t inner places s → r.first + r.len ≤ s.first → (o : Option ℕ) → r.level ≡ o → (e : Entry) → IsPieceOfRun items r o e → IsPieceOfRun items s s.level e → ⊥
+  runs_differ apart r s run later rise None level_is e first second =
+      let mine = item_from r.first e (first_within r run) in
+      let other = item_from s.first e (first_within s later) in
+      let near = particle_level r run r.first e mine.0 (first_place r run) mine.2 ∙ level_is in
+      let one : e ≡ entry_at t inner js mine.0 None = sym (piece_entry r run None level_is e first r.first e mine.0 (first_place r run) mine.2) ∙ ap (entry_at t inner js mine.0) near in
+      let theirs : entry_of t inner js other.0 ≡ e = piece_entry s later s.level refl e second s.first e other.0 (first_place s later) other.2 in
+      let none : s.level ≡ None = sym (particle_level s later s.first e other.0 (first_place s later) other.2) ∙ leads_to_none t inner js other.0 mine.0 (level_of t inner other.0.at) (theirs ∙ one) in
+      let there : get_or items s.first e ≡ e = subst (λ (o : Option ℕ). IsPieceOfRun items s o e) none second in
+      let some = run.some in
+      apart_at items r.first s.first e apart (omega arith) (first_within s later) (first ∙ sym there)
+  runs_differ apart r s run later rise (Some level) level_is e first second =
+      let other = item_from s.first e (first_within s later) in
+      let j = other.0 in
+      let theirs : entry_of t inner js j ≡ e = piece_entry s later s.level refl e second s.first e j (first_place s later) other.2 in
+      let cell = run_cell r run level level_is e in
+      let is : e ≡ Cell cell (moment_together (items_at r items)) = first (get_or items r.first e) (get_or_default items r.first _ e (first_within r run)) in
+      let leads = leads_to_it t inner js j (level_of t inner j.at) cell (moment_together (items_at r items)) (theirs ∙ is) in
+      let shared = item_shares_at laws.positions t inner outer nested js j level (lowest_of r run level level_is e j leads.0) in
+      let at : cell_at (item_position (get_or items s.first e)) level ≡ cell = ap (λ (f : Entry). cell_at (item_position f) level) other.2 ∙ shared ∙ leads.1 in
+      let p = item_position e in
+      let within = first_within s later in
+      let inside : s.first < length places = (let long = length-map items item_position in omega arith) in
+      let there : cell_at (get_or places s.first p) level ≡ cell_at (get_or places r.first p) level =
+      ap (λ (q : Position). cell_at q level) (place_at s later s.first e p within) ∙ at ∙ ap (λ (q : Position). cell_at q level) (sym (place_at r run r.first e p (first_within r run))) in
+      let place = (whole_is r run level level_is e s.first p inside).1 there in
+      let less = place.1 in
+      absurd (omega arith)
+
+  -- what stands beside what in two lists
+  zip_second : {A B : Type 0} (R : A → B → Type 0) (xs : List A) (ys : List B) (y : B) → AllZip R xs ys → Contains ys y → (x : A) × Contains xs x × R x y
+  zip_second R [] [] y all h = absurd (omega (arith, h.1))
+  zip_second R [] (b ∷ bs) y all h = absurd all
+  zip_second R (a ∷ more) [] y all h = absurd all
+  zip_second R (a ∷ more) (b ∷ bs) y all h =
+      elim (head_or_rest b bs y h) [
+        | inl is ↦ (a, (0, omega arith, refl), subst (R a) is all.0)
+        | inr rest ↦ (let found = zip_second R more bs y all.1 rest in (found.0, more_in a more found.0 found.1, found.2))
+      ]
+
+  zip_first : {A B : Type 0} (R : A → B → Type 0) (xs : List A) (ys : List B) (x : A) → AllZip R xs ys → Contains xs x → (y : B) × Contains ys y × R x y
+  zip_first R [] ys x all h = absurd (omega (arith, h.1))
+  zip_first R (a ∷ more) [] x all h = absurd all
+  zip_first R (a ∷ more) (b ∷ bs) x all h =
+      elim (head_or_rest a more x h) [
+        | inl is ↦ (b, (0, omega arith, refl), subst (λ v. R v b) is all.0)
+        | inr rest ↦ (let found = zip_first R more bs x all.1 rest in (found.0, more_in b bs found.0 found.1, found.2))
+      ]
+
+  abbrev Makes : CellRun → Entry → Type 0
+  Makes r e = IsPieceOfRun items r r.level e
+
+  -- so pieces differ
+  pieces_apart : Apart items → (runs : List CellRun) (pieces : List Entry) → All (IsCellRun t inner places) runs → AllPairs (λ r s. r.first + r.len ≤ s.first) runs → AllZip Makes runs pieces → Apart pieces
+  pieces_apart apart [] [] each rise all = tt
+  pieces_apart apart [] (e ∷ es) each rise all = absurd all
+  pieces_apart apart (r ∷ rs) [] each rise all = absurd all
+  pieces_apart apart (r ∷ rs) (e ∷ es) each rise all =
+      let rest : All (IsCellRun t inner places) rs = λ k d within. each (suc k) d (omega arith) in (
+        λ there.
+            let found = zip_second Makes rs es e all.1 there in
+            let s = found.0 in
+            let k = found.1.0 in
+            let less : k < length rs = found.1.1 in
+            let after : r.first + r.len ≤ (get_or rs k s).first = rise 0 (suc k) s (omega arith) (omega arith) in
+            let before : r.first + r.len ≤ s.first = subst (λ (v : CellRun). r.first + r.len ≤ v.first) found.1.2 after in
+            runs_differ apart r s (each 0 r (omega arith)) (All-contains (IsCellRun t inner places) rs s rest found.1) before r.level refl e all.0 found.2,
+        pieces_apart apart rs es rest (λ i k d less within. rise (suc i) (suc k) d (omega arith) (omega arith)) all.1,
+      )
+
+  -- the pieces of all runs are the entries of the particles, each once
+  module _ (runs : List CellRun) (are : AreCellRuns t inner places runs) (pieces : List Entry) (all : AllZip Makes runs pieces) where
+    pieces_complete : (j : Particle) → Contains js j → Contains pieces (entry_of t inner js j)
+    pieces_complete j there =
+        let item = entry_of t outer js j in
+        let at = Contains-permutation (list_of t outer js) items item same (((laws.entries t outer js (list_of t outer js) distinct).1 refl).complete j there) in
+        let k = at.0 in
+        let within : k < length items = at.1 in
+        let run = laws.each_place 0 (length places) k runs are.in_turn (omega arith) (let long = length-map items item_position in omega arith) in
+        let r = run.0 in
+        let found = zip_first Makes runs pieces r all run.1 in
+        let is = All-contains (IsCellRun t inner places) runs r are.each run.1 in
+        subst (Contains pieces) (sym (piece_entry r is r.level refl found.0 found.2 k item j run.2 at.2)) found.1
+
+    pieces_sound : (e : Entry) → Contains pieces e → (j : Particle) × Contains js j × (e ≡ entry_of t inner js j)
+    pieces_sound e there =
+        let found = zip_second Makes runs pieces e all there in
+        let r = found.0 in
+        let is = All-contains (IsCellRun t inner places) runs r are.each found.1 in
+        let from = item_from r.first e (first_within r is) in
+        (from.0, from.1, sym (piece_entry r is r.level refl e found.2 r.first e from.0 (first_place r is) from.2))
+
+    pub pieces_are : HasEntriesOf t inner js pieces
+    pieces_are = record { complete = pieces_complete; sound = pieces_sound }
+
+    pub pieces_are_few : length pieces ≤ length (list_of t inner js)
+    pieces_are_few =
+        let list = (laws.entries t outer js (list_of t outer js) distinct).1 refl in
+        let apart = apart_permutation (list_of t outer js) items same (apart_order (list_of t outer js) (ascends (list_of t outer js) list.ordered)) in
+        let mine = (laws.entries t inner js (list_of t inner js) distinct).1 refl in
+        no_more_than pieces (list_of t inner js) (pieces_apart apart runs pieces are.each (laws.rise 0 (length places) runs are.in_turn) all)
+        (λ e there. let from = pieces_sound e there in subst (Contains (list_of t inner js)) (sym from.2) (mine.complete from.0 from.1))
+
+pub items_make_pieces : ItemLaws → SomeHaveDistinctIds → ItemsMakePieces
+items_make_pieces laws some t g js tree box runs bodies particles served sent are =
+    let own = particles_of g js tree.src in
+    let outer = domain_box g js tree.dst in
+    let nested : AreNested box outer = record { inner_is = served.inner; outer_is = served.outer; within = served.within } in
+    let distinct : HaveDistinctIds own = some _ js bodies.distinct in
+    let same : IsPermutation (list_of t outer own) tree.items = subst (λ (es : List Entry). IsPermutation es tree.items) (served_tree t g js tree.src tree.dst served.some) sent.items in
+    let kept : length own ≤ length js = length-filter-le _ js in
+    let few = bodies.few in (
+      λ k d within.
+          let r = get_or runs k d in
+          run_limits laws t box outer nested own distinct tree.items same r (are.each k d within) (omega arith) (All-filter _ IsParticle js particles) (Cell (record { level = 0; key = 0 }) (moment_of [])) r.level refl,
+      λ pieces all. (pieces_are laws t box outer nested own distinct tree.items same runs are pieces all, pieces_are_few laws t box outer nested own distinct tree.items same runs are pieces all),
+    )

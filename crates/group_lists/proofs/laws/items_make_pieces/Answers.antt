@@ -1,5 +1,20 @@
-use Rattle.group_lists.proofs.ItemLemmas.{ItemLaws}
+use Rattle.group_lists.proofs.ItemLemmas.{items_make_pieces}
 use Rattle.group_lists.proofs.laws.items_make_pieces.Goals as goal
 
 pub returns : goal.returns
-returns c = ?
+returns c =
+    items_make_pieces (record {
+      positions = record {
+        inside = c.cells_pass_for_boxes_inside.ensures;
+        corners = c.corners_lie_inside.ensures;
+        share = c.positions_share_lower_cells.ensures;
+        cells = c.positions_have_cells.ensures;
+        levels = c.levels_are_least.ensures;
+      };
+      nest = c.cells_of_a_position_nest.ensures;
+      entries = c.lists_hold_their_entries.ensures;
+      add_up = c.entries_add_up_their_items.ensures;
+      limits = c.moments_keep_their_limits.ensures;
+      each_place = c.runs_hold_each_place.ensures;
+      rise = c.runs_rise.ensures;
+    }) c.some_have_distinct_ids.ensures
