@@ -1,9 +1,9 @@
 -- The lists of groups while the pieces of one source are put into them, group after group.
-use Rattle.std.proofs.Common.{◌≡◌, ℕ, zero, suc, ◌+◌, ◌*◌, ◌^◌, ◌<◌, ◌≤◌, Bool, true, false, cond, List, [], ◌∷◌, ◌++◌, length, get_or, set, map, take, drop, inl, inr, refl, sym, ◌∙◌, ap, subst, arith}
+use Rattle.std.proofs.Common.{◌≡◌, ℕ, suc, ◌+◌, ◌*◌, ◌^◌, ◌<◌, ◌≤◌, Bool, true, false, List, [], ◌∷◌, ◌++◌, length, get_or, set, map, take, drop, inl, inr, refl, sym, ◌∙◌, ap, subst, arith}
 use Rattle.std.specs.List.{sum_by, All, count_by, list_any}
 use Rattle.std.specs.List.Sorted.{IsPermutation}
 use Rattle.std.proofs.lemmas.Bool.{cases_lt, cases_eq}
-use Rattle.std.proofs.lemmas.List.{length-map, length-set, get_or-map, get_or_default, map-set, set-get_or, get_or-set_same, get_or-set_other, take_all, drop_all, append-nil, map-append}
+use Rattle.std.proofs.lemmas.List.{length-map, length-set, get_or-map, map-set, set-get_or, get_or-set_same, get_or-set_other, take_all, drop_all, append-nil, map-append}
 use Rattle.std.proofs.lemmas.List.Elements.{All-nil, All-push}
 use Rattle.std.proofs.lemmas.List.Sums.{sum_by-cons, sum_by_more, sum_by-drop_more, sum_by-set, sum_by-le, count_by-le-length}
 use Rattle.pf_model.specs.declared.entry.Entry.{Entry}
@@ -23,7 +23,6 @@ use Rattle.group_lists.specs.Gathering.{partial_list, source_list}
 use Rattle.group_lists.specs.Keyed.{IsServed}
 use Rattle.group_lists.specs.Pieces.{HaveFewMembers, is_occupied, common_with}
 use Rattle.group_lists.specs.PieceLaws.{PiecesMakeLists, PiecesAreInOrder, CommonPiecesAreOccupied, GroupsAreServed}
-use Rattle.group_lists.proofs.GatherLemmas.{map-map}
 
 abbrev pub entries_of : Listed → List Entry
 entries_of l = l.entries.items

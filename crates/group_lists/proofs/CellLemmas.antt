@@ -1,18 +1,9 @@
 -- The first passing cell of a position.
-use Rattle.std.proofs.Common.{◌≡◌, ℕ, ◌+◌, ◌-◌, ◌*◌, ◌/◌, ◌^◌, ◌<◌, ◌≤◌, Bool, true, false, List, Option, Some, None, refl, sym, ◌∙◌, ap, subst, arith}
-use Rattle.std.specs.List.{filter}
-use Rattle.std.proofs.Math.Nat.{div-div-eq-div-mul}
-use Rattle.std.proofs.lemmas.Nat.{pow-add}
-use Rattle.std.proofs.lemmas.Bool.{eqb-true, and_parts, false≢true}
-use Rattle.std.proofs.lemmas.List.Elements.{filter_agree}
+use Rattle.std.proofs.Common.{◌≡◌, ℕ, ◌<◌, sym, subst, arith}
 use Rattle.pf_geom.specs.Position.{Position}
 use Rattle.pf_geom.specs.Bounds.{Bounds}
-use Rattle.pf_geom.specs.Key.{morton_key}
 use Rattle.pf_geom.specs.Octant.{Octant, cell_at}
-use Rattle.pf_model.specs.Particle.{Particle}
 use Rattle.pf_model.specs.Criterion.{Criterion, Passes}
-use Rattle.pf_model.specs.Interaction.{level_of, is_cell, is_cell_at, leads_to_cell}
-use Rattle.pf_model.specs.Group.{particles_in}
 use Rattle.pf_geom.specs.CellLaws.{PositionsShareLowerCells}
 use Rattle.pf_model.specs.ListLaws.{IsFirstPassing}
 

@@ -14,9 +14,8 @@ use Rattle.pf_model.specs.Particles.{HaveDistinctIds}
 use Rattle.pf_model.specs.Criterion.{Criterion}
 use Rattle.pf_model.specs.Division.{Division, IsDivision}
 use Rattle.pf_model.specs.Domains.{particles_of}
-use Rattle.pf_model.specs.Order.{placed, in_order_once}
 use Rattle.pf_model.specs.Sums.{moment_of}
-use Rattle.pf_model.specs.Interaction.{level_of, is_cell_at, leads_to_cell, entry_at, entry_of, comes_before, list_of}
+use Rattle.pf_model.specs.Interaction.{level_of, is_cell_at, leads_to_cell, entry_at, list_of}
 use Rattle.pf_model.specs.ListLaws.{ListsHoldTheirEntries, ListsAreShort}
 use Rattle.pf_model.specs.ListLaws.{ListsIgnoreOrder}
 use Rattle.pf_model.specs.DomainLaws.{OneRankHasItsOwn, AllRanksHaveAll}

@@ -1,5 +1,5 @@
 -- The entries that runs of an essential tree's items make, seen from a box that the tree serves.
-use Rattle.std.proofs.Common.{◌≡◌, ℕ, zero, suc, ◌+◌, ◌<◌, ◌≤◌, Bool, true, false, ◌&&◌, List, [], ◌∷◌, length, get_or, map, take, drop, Option, Some, None, inl, inr, refl, sym, ◌∙◌, ap, subst, arith}
+use Rattle.std.proofs.Common.{◌≡◌, ℕ, suc, ◌+◌, ◌<◌, ◌≤◌, Bool, true, List, [], ◌∷◌, length, get_or, map, Option, Some, None, inl, inr, refl, sym, ◌∙◌, ap, subst, arith}
 use Rattle.std.specs.Prelude.{IfSome, ⊤, AllPairs}
 use Rattle.std.specs.List.{filter, All, AllZip, Contains}
 use Rattle.std.specs.List.Sorted.{IsPermutation}
@@ -13,25 +13,21 @@ use Rattle.pf_geom.specs.Octant.{Octant, cell_at, ancestor_at}
 use Rattle.pf_geom.specs.CellLaws.{CellsOfAPositionNest}
 use Rattle.pf_model.specs.declared.entry.Entry.{Entry}
 use Rattle.pf_model.specs.declared.entry.Entry.TheVariants.{Cell, One}
-use Rattle.pf_model.specs.declared.limits.TheConstants.{MOST_PARTICLES}
 use Rattle.pf_model.specs.Particle.{Particle, IsParticle}
-use Rattle.pf_model.specs.Particles.{AreBodies, HaveDistinctIds}
+use Rattle.pf_model.specs.Particles.{HaveDistinctIds}
 use Rattle.pf_model.specs.Criterion.{Criterion}
-use Rattle.pf_model.specs.Division.{Division}
-use Rattle.pf_model.specs.Domains.{owner, particles_of, domain_box}
+use Rattle.pf_model.specs.Domains.{particles_of, domain_box}
 use Rattle.pf_model.specs.Totals.{Totals, IsTotals}
 use Rattle.pf_model.specs.Sums.{moment_of}
-use Rattle.pf_model.specs.Interaction.{level_of, is_cell, leads_to_cell, entry_at, entry_of, list_of}
-use Rattle.pf_model.specs.EssentialTree.{Essential, essential_tree}
-use Rattle.pf_model.specs.Sufficiency.{lies_in, items_in, entry_moment, moment_together, EntriesAddUpTheirItems}
+use Rattle.pf_model.specs.Interaction.{level_of, leads_to_cell, entry_at, entry_of, list_of}
+use Rattle.pf_model.specs.Sufficiency.{lies_in, moment_together, EntriesAddUpTheirItems}
 use Rattle.pf_model.specs.ListLaws.{ListsHoldTheirEntries}
 use Rattle.pf_model.specs.MomentLaws.{MomentsKeepTheirLimits}
 use Rattle.pf_model.specs.ParticleLaws.{SomeHaveDistinctIds}
 use Rattle.cell_runs.specs.declared.cell_run.CellRun.{CellRun}
-use Rattle.cell_runs.specs.CellRuns.{IsPlaceOf, IsWholeCell, IsCellRun, FollowInTurn, AreCellRuns}
+use Rattle.cell_runs.specs.CellRuns.{IsPlaceOf, IsWholeCell, IsCellRun, AreCellRuns}
 use Rattle.cell_runs.specs.RunLaws.{RunsHoldEachPlace, RunsRise}
-use Rattle.group_lists.specs.Gathering.{IsSentTo}
-use Rattle.group_lists.specs.Keyed.{IsServed, item_position, items_at, IsPieceOfRun}
+use Rattle.group_lists.specs.Keyed.{item_position, items_at, IsPieceOfRun}
 use Rattle.group_lists.specs.Runs.{HasEntriesOf}
 use Rattle.group_lists.specs.PieceLaws.{ItemsMakePieces}
 use Rattle.group_lists.proofs.CellLemmas.{NonePassesBelow}
@@ -40,7 +36,6 @@ use Rattle.group_lists.proofs.TotalLemmas.{length-filter-le}
 use Rattle.group_lists.proofs.PositionLemmas.{PositionLaws, AreNested, passes_inner, is_deep, corner_in, item_shares_at, item_level, item_is_near}
 use Rattle.group_lists.proofs.OccupiedLemmas.{same_octant, octant_same, head_or_rest, served_tree}
 use Rattle.group_lists.proofs.ApartLemmas.{Apart, moment_permutation, apart_permutation, apart_at, apart_order, no_more_than, segment}
-use Rattle.group_lists.proofs.PieceRunLemmas.{IsLimited}
 
 -- what this rests on
 pub record ItemLaws : Type 0 where

@@ -1,9 +1,8 @@
 -- Two lists in order merged from the front.
-use Rattle.std.proofs.Common.{◌≡◌, ℕ, zero, suc, ◌+◌, ◌-◌, ◌<◌, ◌≤◌, Bool, true, false, cond, not, List, [], ◌∷◌, ◌++◌, length, get_or, drop, ◌⊎◌, inl, inr, ◌&&◌, ◌||◌, refl, sym, ◌∙◌, ap, subst, arith, ltb, eqb}
-use Rattle.std.specs.List.{AllPairs, Contains, list_any}
-use Rattle.std.specs.List.Sorted.{IsPartitionedBy, IsPartitionPoint}
-use Rattle.std.proofs.lemmas.Bool.{cases_lt, cases_order, cond-true, cond-false, cond_both, ltb-true, ltb-false, lt-ltb, le-ltb, eqb-true, eqb-false, eq-eqb, or_cases, or_parts, or_left, or_right, and_parts, and_from, and_cases, false≢true, true≢false, false_from_ne_true, both_ways, not-true, not_from_false}
-use Rattle.std.proofs.lemmas.List.{drop_more, drop_all, length-drop, get_or_default, append_assoc, append-nil}
+use Rattle.std.proofs.Common.{◌≡◌, ℕ, zero, suc, ◌+◌, ◌<◌, ◌≤◌, Bool, true, false, not, List, [], ◌∷◌, ◌++◌, length, get_or, drop, ◌⊎◌, inl, inr, ◌&&◌, ◌||◌, refl, sym, ◌∙◌, ap, subst, arith, ltb, eqb}
+use Rattle.std.specs.List.Sorted.{IsPartitionedBy}
+use Rattle.std.proofs.lemmas.Bool.{cases_lt, cases_order, cond-true, cond-false, cond_both, ltb-true, ltb-false, lt-ltb, eqb-true, eq-eqb, or_cases, or_left, or_right, and_parts, and_from, false≢true, true≢false, false_from_ne_true, both_ways, not-true, not_from_false}
+use Rattle.std.proofs.lemmas.List.{drop_more, drop_all, append_assoc, append-nil}
 use Rattle.pf_geom.specs.Octant.{Octant}
 use Rattle.pf_model.specs.Totals.{Totals}
 use Rattle.pf_model.specs.declared.entry.Entry.{Entry}

@@ -1,11 +1,11 @@
 -- The pieces in whose cell something stands that was gathered before.
-use Rattle.std.proofs.Common.{◌≡◌, ℕ, zero, suc, ◌+◌, ◌<◌, ◌≤◌, Bool, true, false, cond, not, ◌&&◌, ◌||◌, List, [], ◌∷◌, ◌++◌, length, get_or, map, Option, Some, None, inl, inr, ◌⊎◌, refl, sym, ◌∙◌, ap, subst, arith, nat_eq}
-use Rattle.std.specs.List.{filter, list_any, count_by, All, Contains}
+use Rattle.std.proofs.Common.{◌≡◌, ℕ, zero, suc, ◌+◌, ◌<◌, ◌≤◌, Bool, true, false, cond, ◌||◌, List, [], ◌∷◌, length, map, Option, Some, None, inl, inr, ◌⊎◌, refl, sym, ◌∙◌, ap, subst, arith, nat_eq}
+use Rattle.std.specs.List.{filter, list_any, count_by, Contains}
 use Rattle.std.specs.List.Sorted.{IsPermutation}
-use Rattle.std.proofs.lemmas.Bool.{cond_both, cond-true, cond-false, eqb-true, eq-eqb, or_cases, or_left, or_right, and_parts, and_from, both_ways, false_from_ne_true, true≢false, ltb-false, not-true, not_from_false}
-use Rattle.std.proofs.lemmas.List.{get_or_default, get_or-map, length-map}
+use Rattle.std.proofs.lemmas.Bool.{cond_both, eqb-true, eq-eqb, or_cases, or_left, or_right, and_parts, and_from, both_ways, false_from_ne_true, true≢false, ltb-false, not-true, not_from_false}
+use Rattle.std.proofs.lemmas.List.{get_or-map, length-map}
 use Rattle.std.proofs.lemmas.List.Elements.{All-contains, filter_passes}
-use Rattle.std.proofs.lemmas.List.Folds.{list_any_none, list_any_at}
+use Rattle.std.proofs.lemmas.List.Folds.{list_any_at}
 use Rattle.std.proofs.lemmas.List.Sums.{sum_by-cons}
 use Rattle.std.proofs.lemmas.List.Sorted.{Contains-permutation, IsPermutation-sym}
 use Rattle.pf_geom.specs.Position.{Position}
@@ -15,7 +15,7 @@ use Rattle.pf_geom.specs.CellLaws.{CellsOfAPositionNest}
 use Rattle.pf_model.specs.declared.entry.Entry.{Entry}
 use Rattle.pf_model.specs.declared.entry.Entry.TheVariants.{Cell, One}
 use Rattle.pf_model.specs.Particle.{Particle}
-use Rattle.pf_model.specs.Particles.{AreBodies, HaveDistinctIds}
+use Rattle.pf_model.specs.Particles.{AreBodies}
 use Rattle.pf_model.specs.Criterion.{Criterion, Passes}
 use Rattle.pf_model.specs.Division.{Division}
 use Rattle.pf_model.specs.Domains.{owner, particles_of, domain_box}
@@ -25,14 +25,13 @@ use Rattle.pf_model.specs.Group.{particles_in}
 use Rattle.pf_model.specs.Interaction.{level_of, is_cell, entry_at, entry_of, comes_before, list_of}
 use Rattle.pf_model.specs.Merging.{is_level, common_count}
 use Rattle.pf_model.specs.ListLaws.{ListsHoldTheirEntries, ListsHoldFirstCells, ListsHoldNearParticles, IsFirstCell}
-use Rattle.pf_model.specs.ParticleLaws.{SomeHaveDistinctIds, DistinctIdsIgnoreOrder, ParticlesOfOneIdAreOne}
-use Rattle.pf_model.specs.DomainLaws.{RanksHaveTheirOwn, OneRankHasItsOwn}
+use Rattle.pf_model.specs.ParticleLaws.{SomeHaveDistinctIds, ParticlesOfOneIdAreOne}
+use Rattle.pf_model.specs.DomainLaws.{OneRankHasItsOwn}
 use Rattle.pf_model.specs.EssentialTree.{Essential, tree_for, essential_tree, particles_of_ranks}
 use Rattle.morton_tree.specs.declared.group.Group.{Group}
 use Rattle.group_lists.specs.Gathering.{Gathering, IsNewSource, IsSentTo, CanAbsorb}
 use Rattle.group_lists.specs.Keyed.{IsServed, item_position}
 use Rattle.group_lists.specs.Pieces.{is_occupied}
-use Rattle.group_lists.specs.PieceLaws.{CommonPiecesAreOccupied}
 use Rattle.group_lists.proofs.CellLemmas.{NonePassesBelow}
 use Rattle.group_lists.proofs.MergeLemmas.{not_before_itself, level_octant}
 use Rattle.group_lists.proofs.PositionLemmas.{PositionLaws, AreNested, item_shares_at, item_shares_from}

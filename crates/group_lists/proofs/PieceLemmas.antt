@@ -1,9 +1,9 @@
 -- The lists of groups over the particles of one rank more.
-use Rattle.std.proofs.Common.{◌≡◌, ℕ, ◌+◌, ◌<◌, ◌≤◌, Bool, true, false, cond, ◌||◌, List, [], ◌∷◌, ◌++◌, length, get_or, map, take, drop, Option, Some, None, refl, sym, ◌∙◌, ap, subst, arith, nat_eq}
-use Rattle.std.specs.List.{filter, list_any, All, Contains, IsDistinct}
+use Rattle.std.proofs.Common.{◌≡◌, ℕ, ◌+◌, ◌<◌, ◌≤◌, Bool, true, false, ◌||◌, List, [], ◌∷◌, ◌++◌, length, drop, Option, Some, None, refl, sym, ◌∙◌, ap, subst, arith, nat_eq}
+use Rattle.std.specs.List.{filter, list_any, All, Contains}
 use Rattle.std.specs.List.Sorted.{IsPermutation}
-use Rattle.std.proofs.lemmas.Bool.{cond_both, eqb-true}
-use Rattle.std.proofs.lemmas.List.{length-append, length-take-le, length-take, length-drop}
+use Rattle.std.proofs.lemmas.Bool.{eqb-true}
+use Rattle.std.proofs.lemmas.List.{length-append, length-take, length-drop}
 use Rattle.std.proofs.lemmas.List.Elements.{All-filter, All-weaker, All-take, All-drop, filter_passes, filter_agree}
 use Rattle.std.proofs.lemmas.List.Folds.{list_any-append}
 use Rattle.std.proofs.lemmas.List.Sorted.{All-permutation, IsPermutation-sym, length_permutation}
@@ -15,22 +15,20 @@ use Rattle.pf_model.specs.declared.entry.Entry.TheVariants.{Cell, One}
 use Rattle.pf_model.specs.Particle.{Particle, IsParticle}
 use Rattle.pf_model.specs.Particles.{AreBodies, HaveDistinctIds}
 use Rattle.pf_model.specs.Criterion.{Criterion}
-use Rattle.pf_model.specs.Division.{Division, IsDivision}
+use Rattle.pf_model.specs.Division.{Division}
 use Rattle.pf_model.specs.Domains.{owner, particles_of, domain_box}
 use Rattle.pf_model.specs.Group.{box_of}
-use Rattle.pf_model.specs.Interaction.{level_of, leads_to_cell, entry_at, entry_of, list_of}
+use Rattle.pf_model.specs.Interaction.{level_of, leads_to_cell, entry_at, list_of}
 use Rattle.pf_model.specs.Merging.{merged, common_count}
 use Rattle.pf_model.specs.MergingLaws.{ListsMerge, MergedListsShareCells}
 use Rattle.pf_model.specs.ListLaws.{ListsHoldTheirEntries, ListsIgnoreOrder, ListsAreShort}
 use Rattle.pf_model.specs.ParticleLaws.{SomeHaveDistinctIds, DistinctIdsIgnoreOrder}
 use Rattle.pf_model.specs.DomainLaws.{RanksHaveTheirOwn, OneRankHasItsOwn}
 use Rattle.pf_model.specs.EssentialTree.{particles_of_ranks, limited_list}
-use Rattle.pf_model.specs.Sufficiency.{entry_moment, BoxesLieInDomains}
-use Rattle.morton_tree.specs.declared.group.Group.{Group}
+use Rattle.pf_model.specs.Sufficiency.{BoxesLieInDomains}
 use Rattle.morton_tree.specs.Spans.{at_span}
-use Rattle.group_lists.specs.Gathering.{Gathering, with_source, IsNewSource, IsGroupOf}
-use Rattle.group_lists.specs.Keyed.{IsServed}
-use Rattle.group_lists.specs.Pieces.{AreFewTogether, HaveFewMembers}
+use Rattle.group_lists.specs.Gathering.{Gathering, IsNewSource}
+use Rattle.group_lists.specs.Pieces.{AreFewTogether}
 use Rattle.group_lists.specs.PieceLaws.{PiecesMakeLists, PiecesAreInOrder, GroupsAreServed}
 use Rattle.group_lists.proofs.TotalLemmas.{entry_count, counted_by, length-filter-le}
 

@@ -1,13 +1,12 @@
 -- The pieces that runs of items make.
-use Rattle.std.proofs.Common.{◌≡◌, ℕ, zero, suc, ◌+◌, ◌/◌, ◌-◌, ◌^◌, ◌<◌, ◌≤◌, List, [], ◌∷◌, ◌++◌, length, get_or, map, take, drop, Option, Some, None, refl, sym, ◌∙◌, ap, subst, arith}
+use Rattle.std.proofs.Common.{◌≡◌, ℕ, ◌+◌, ◌/◌, ◌-◌, ◌^◌, ◌<◌, ◌≤◌, List, [], ◌∷◌, ◌++◌, length, get_or, map, take, refl, sym, ◌∙◌, ap, subst, arith}
 use Rattle.std.specs.Prelude.{IfSome}
 use Rattle.std.specs.List.{All, AllZip}
-use Rattle.std.specs.List.Sorted.{IsPermutation}
-use Rattle.std.proofs.lemmas.List.{length-map, get_or-map, take_more, take_all}
+use Rattle.std.proofs.lemmas.List.{get_or-map, take_more, take_all}
 use Rattle.pf_geom.specs.Position.{Position}
 use Rattle.pf_geom.specs.Bounds.{Bounds}
 use Rattle.pf_geom.specs.Key.{morton_key}
-use Rattle.pf_geom.specs.Octant.{IsOctant, cell_at}
+use Rattle.pf_geom.specs.Octant.{IsOctant}
 use Rattle.pf_geom.specs.CellLaws.{PositionsHaveCells}
 use Rattle.pf_model.specs.declared.entry.Entry.{Entry}
 use Rattle.pf_model.specs.Particle.{Particle, IsParticle}

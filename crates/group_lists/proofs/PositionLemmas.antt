@@ -1,16 +1,14 @@
 -- Where the items of an essential tree stand, seen from a box inside the one that they were made for.
-use Rattle.std.proofs.Common.{◌≡◌, ℕ, ◌<◌, ◌≤◌, Option, Some, None, List, inl, inr, refl, sym, ◌∙◌, ap, subst, arith}
+use Rattle.std.proofs.Common.{◌≡◌, ℕ, ◌≤◌, Option, Some, None, List, inl, inr, refl, sym, ◌∙◌, ap, subst}
 use Rattle.std.proofs.lemmas.Bool.{cases_lt}
-use Rattle.pf_geom.specs.Position.{Position, IsPosition}
 use Rattle.pf_geom.specs.Bounds.{Bounds, IsBox, IsWithin}
 use Rattle.pf_geom.specs.Octant.{Octant, IsCell, cell_at, corner_of}
 use Rattle.pf_geom.specs.CellLaws.{PositionsHaveCells, PositionsShareLowerCells, CornersLieInside}
-use Rattle.pf_model.specs.declared.entry.Entry.{Entry}
 use Rattle.pf_model.specs.Particle.{Particle}
 use Rattle.pf_model.specs.Criterion.{Criterion, Passes}
 use Rattle.pf_model.specs.Interaction.{level_of, entry_at, entry_of}
 use Rattle.pf_model.specs.OpeningLaws.{CellsPassForBoxesInside}
-use Rattle.pf_model.specs.ListLaws.{IsFirstPassing, NonePasses, LevelsAreLeast}
+use Rattle.pf_model.specs.ListLaws.{LevelsAreLeast}
 use Rattle.group_lists.specs.Keyed.{item_position}
 use Rattle.group_lists.proofs.CellLemmas.{NonePassesBelow, first_shared}
 

@@ -1,5 +1,5 @@
 -- How many particles the entries of a list stand for together.
-use Rattle.std.proofs.Common.{◌≡◌, ℕ, ◌+◌, ◌≤◌, Bool, true, false, cond, List, [], ◌∷◌, ◌++◌, length, map, Option, Some, None, refl, sym, ◌∙◌, ap, subst, arith}
+use Rattle.std.proofs.Common.{◌≡◌, ℕ, ◌+◌, ◌≤◌, Bool, true, false, cond, List, [], ◌∷◌, length, Option, Some, None, refl, sym, ◌∙◌, ap, arith}
 use Rattle.std.specs.List.{filter, sum_by, IsDistinct}
 use Rattle.std.specs.List.Sorted.{IsPermutation}
 use Rattle.std.proofs.lemmas.Bool.{cond_both}
@@ -13,7 +13,7 @@ use Rattle.pf_model.specs.Particle.{Particle}
 use Rattle.pf_model.specs.Particles.{AreBodies, HaveDistinctIds}
 use Rattle.pf_model.specs.Criterion.{Criterion}
 use Rattle.pf_model.specs.Division.{Division}
-use Rattle.pf_model.specs.Domains.{owner, particles_of, domain_box}
+use Rattle.pf_model.specs.Domains.{particles_of, domain_box}
 use Rattle.pf_model.specs.Sums.{moment_of}
 use Rattle.pf_model.specs.Interaction.{level_of, leads_to_cell, entry_at, entry_of, comes_before, list_of}
 use Rattle.pf_model.specs.Merging.{joined, with_entry, merged}

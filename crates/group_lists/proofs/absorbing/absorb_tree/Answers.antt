@@ -1,15 +1,11 @@
-use Rattle.std.proofs.Common.{◌≡◌, ℕ, ◌+◌, ◌*◌, ◌^◌, ◌<◌, ◌≤◌, Bool, true, false, List, [], length, map, take, get_or, refl, sym, ◌∙◌, ap, subst, arith, leb}
-use Rattle.std.specs.List.{sum_by}
-use Rattle.std.specs.Prelude.{IsTrue}
+use Rattle.std.proofs.Common.{◌≡◌, ◌^◌, ◌<◌, ◌≤◌, List, length, map, get_or, sym, ◌∙◌, subst, arith, leb}
 use Rattle.std.proofs.lemmas.Bool.{leb-true, le-leb}
 use Rattle.std.proofs.lemmas.List.{get_or_default, length-map}
 use Rattle.pf_model.specs.declared.entry.Entry.{Entry}
 use Rattle.pf_model.specs.Interaction.{IsInListOrder}
-use Rattle.morton_tree.specs.declared.group.Group.{Group}
 use Rattle.group_lists.specs.declared.listed.Listed.{Listed}
-use Rattle.group_lists.specs.Gathering.{Gathering, gathering_of, with_source, partial_list, source_list, IsGathered}
-use Rattle.group_lists.specs.Keyed.{IsServed}
-use Rattle.group_lists.proofs.AbsorbLemmas.{grown_none, grown_more, grown_all, served_at, order_kept, grown_step, tests_more, tests_all, shorts_all}
+use Rattle.group_lists.specs.Gathering.{Gathering, gathering_of, with_source, partial_list, source_list}
+use Rattle.group_lists.proofs.AbsorbLemmas.{grown_none, grown_more, grown_all, served_at, order_kept, grown_step, tests_more, shorts_all}
 use Rattle.group_lists.proofs.absorbing.absorb_tree.Goals as goal
 
 pub loop-one-init : goal.loop-one-init

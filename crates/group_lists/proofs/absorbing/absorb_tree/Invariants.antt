@@ -1,4 +1,4 @@
-use Rattle.std.proofs.Common.{◌≡◌, ◌+◌, ◌*◌, ◌≤◌, length, map, take}
+use Rattle.std.proofs.Common.{◌+◌, ◌*◌, ◌≤◌, length, map, take}
 use Rattle.std.specs.List.{sum_by}
 use Rattle.group_lists.specs.Gathering.{gathering_of, with_source, partial_list, source_list}
 use Rattle.group_lists.proofs.AbsorbLemmas.{AreGrown}

@@ -1,4 +1,4 @@
-use Rattle.std.proofs.Common.{◌≡◌, ◌≤◌, ◌<◌, ◌+◌, length, sym, ◌∙◌, subst, arith}
+use Rattle.std.proofs.Common.{◌+◌, sym, ◌∙◌, subst, arith}
 use Rattle.pf_model.specs.declared.entry.Entry.{Entry}
 use Rattle.group_lists.specs.Pieces.{IsNextOfBoth}
 use Rattle.group_lists.proofs.MergeLemmas.{ascends, next_second, next_first, next_before, next_after, next_joined}

@@ -1,5 +1,4 @@
-use Rattle.std.proofs.Common.{◌≡◌, Bool, true, false, ◌||◌, refl, sym, ◌∙◌, ap}
-use Rattle.pf_model.specs.declared.entry.Entry.{Entry}
+use Rattle.std.proofs.Common.{◌≡◌, Bool, false, ◌||◌, sym, ◌∙◌, ap}
 use Rattle.group_lists.specs.Pieces.{is_occupied}
 use Rattle.group_lists.proofs.occupied.is_occupied.Goals as goal
 

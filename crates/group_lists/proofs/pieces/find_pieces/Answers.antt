@@ -1,15 +1,10 @@
-use Rattle.std.proofs.Common.{◌≡◌, ℕ, ◌+◌, ◌*◌, ◌<◌, ◌≤◌, List, [], ◌∷◌, length, get_or, map, take, None, refl, sym, ◌∙◌, ap, subst, arith}
-use Rattle.std.specs.List.{AllZip}
+use Rattle.std.proofs.Common.{◌≡◌, ◌≤◌, length, None, sym, ◌∙◌, ap, subst, arith}
 use Rattle.std.proofs.lemmas.List.{length-map}
 use Rattle.std.proofs.lemmas.Slice.Zip.{AllZip-long}
-use Rattle.pf_geom.specs.Position.{Position}
-use Rattle.pf_geom.specs.Key.{morton_key}
-use Rattle.pf_model.specs.declared.entry.Entry.{Entry}
 use Rattle.pf_model.specs.Criterion.{Criterion}
 use Rattle.pf_model.specs.EssentialTree.{Essential}
 use Rattle.pf_model.specs.Domains.{particles_of}
 use Rattle.pf_model.specs.Interaction.{list_of}
-use Rattle.cell_runs.specs.declared.cell_run.CellRun.{CellRun}
 use Rattle.cell_runs.specs.CellRuns.{AreCellRuns}
 use Rattle.group_lists.specs.Keyed.{IsKeyed, item_position}
 use Rattle.group_lists.specs.Runs.{HasEntriesOf}

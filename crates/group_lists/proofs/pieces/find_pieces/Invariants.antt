@@ -1,4 +1,4 @@
-use Rattle.std.proofs.Common.{◌≡◌, take}
+use Rattle.std.proofs.Common.{take}
 use Rattle.std.specs.List.{AllZip}
 use Rattle.group_lists.specs.Keyed.{IsPieceOfRun}
 use Rattle.group_lists.proofs.pieces.find_pieces.Given as goal

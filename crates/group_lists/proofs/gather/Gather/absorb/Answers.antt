@@ -1,7 +1,6 @@
-use Rattle.std.proofs.Common.{◌≡◌, ℕ, List, length, map, sym, ◌∙◌, ap, subst, arith}
+use Rattle.std.proofs.Common.{◌≡◌, ℕ, List, map, sym, ◌∙◌, ap, subst, arith}
 use Rattle.pf_model.specs.Particle.{Particle}
 use Rattle.pf_model.specs.EssentialTree.{Essential}
-use Rattle.morton_tree.specs.declared.group.Group.{Group}
 use Rattle.group_lists.specs.declared.listed.Listed.{Listed}
 use Rattle.group_lists.specs.Gathering.{Gathering, gathering_of, with_source, IsGathered, IsSentTo}
 use Rattle.group_lists.proofs.AbsorbLemmas.{group_of, entries_of, absorbed_all}

@@ -1,7 +1,7 @@
-use Rattle.std.proofs.Common.{◌≡◌, List, map, sym, ◌∙◌, ap, subst}
+use Rattle.std.proofs.Common.{◌≡◌, List, map, ◌∙◌, subst}
 use Rattle.pf_model.specs.Criterion.{Criterion}
 use Rattle.pf_model.specs.EssentialTree.{Essential}
-use Rattle.group_lists.specs.Gathering.{Gathering, gathering_of, own_gathering, IsGathered}
+use Rattle.group_lists.specs.Gathering.{gathering_of, own_gathering, IsGathered}
 use Rattle.group_lists.proofs.GatherLemmas.{gathered_from_listed}
 use Rattle.group_lists.proofs.AbsorbLemmas.{entries_of, opened_all}
 use Rattle.group_lists.proofs.gather.Gather.open.Goals as goal

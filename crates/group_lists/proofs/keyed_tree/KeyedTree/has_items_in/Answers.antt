@@ -1,8 +1,6 @@
-use Rattle.std.proofs.Common.{◌≡◌, ℕ, List, ◌∙◌, ap}
+use Rattle.std.proofs.Common.{ℕ, ◌∙◌, ap}
 use Rattle.std.specs.List.{list_any}
-use Rattle.std.specs.List.Sorted.{IsNonDecreasing}
 use Rattle.group_lists.proofs.SearchLemmas.{list_any_map}
-use Rattle.pf_geom.specs.Octant.{Octant}
 use Rattle.pf_model.specs.Interaction.{is_cell}
 use Rattle.pf_model.specs.EssentialTree.{Essential}
 use Rattle.cell_runs.specs.Finding.{cell_of_key}

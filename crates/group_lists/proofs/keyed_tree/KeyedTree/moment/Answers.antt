@@ -1,7 +1,6 @@
-use Rattle.std.proofs.Common.{◌≡◌, ℕ, ◌+◌, ◌<◌, ◌≤◌, List, length, take, drop, ◌∙◌, ap, sym, subst, arith}
+use Rattle.std.proofs.Common.{◌+◌, ◌≤◌, List, length, take, drop, ◌∙◌, ap, sym, subst, arith}
 use Rattle.pf_model.specs.declared.entry.Entry.{Entry}
-use Rattle.pf_model.specs.Totals.{Totals, IsTotals}
-use Rattle.pf_model.specs.Sums.{IsRest}
+use Rattle.pf_model.specs.Totals.{IsTotals}
 use Rattle.pf_model.specs.EssentialTree.{Essential}
 use Rattle.pf_model.specs.Sufficiency.{moment_together}
 use Rattle.group_lists.proofs.KeyedLemmas.{sums_long, sum_between}
@@ -28,9 +27,10 @@ without-requires g c =
     let items = c.self.inside.items.items in
     let view = ap (λ (v : Essential). v.items) c.self.view_is in
     let inside : c.args.first + c.args.len ≤ length items = (let h = c.requires.within in let same = ap length view in omega arith) in
-    let limits : IsTotals (moment_together (take c.args.len (drop c.args.first items))) = subst (λ (es : List Entry). IsTotals (moment_together (take c.args.len (drop c.args.first es)))) (sym view) c.requires.limits in
-    (moment_together (take c.args.len (drop c.args.first items)),
-    sum_between items c.self.inside.sums.items c.args.first c.args.len _ _ c.self.invariant.summed inside c.index-through.ensures c.index-before.ensures limits)
+    let limits : IsTotals (moment_together (take c.args.len (drop c.args.first items))) = subst (λ (es : List Entry). IsTotals (moment_together (take c.args.len (drop c.args.first es)))) (sym view) c.requires.limits in (
+      moment_together (take c.args.len (drop c.args.first items)),
+      sum_between items c.self.inside.sums.items c.args.first c.args.len _ _ c.self.invariant.summed inside c.index-through.ensures c.index-before.ensures limits,
+    )
 
 pub returns : goal.returns
 returns g c =
