@@ -253,20 +253,20 @@ whole_again old new len is same =
 
 -- what a gather keeps once it has absorbed a tree
 pub absorbed_all : (t : Criterion) (g : Division) (js : List Particle) (rank : ℕ) (own : List Particle) (old new : List Listed) (len : ℕ) (trees pushed : List Essential) (tree : Essential) (count : ℕ) (theta : Criterion) →
-    len ≡ length old → map group_of new ≡ map group_of old → IsGathered t g js (with_source (gathering_of tree.dst own (map group_of old) (map (λ s. s.src) trees)) tree.src) (map entries_of new) count →
-    CanAbsorb t g js (gathering_of rank own (map group_of old) (map (λ s. s.src) trees)) theta trees → IsSentTo t g js rank tree → pushed ≡ trees ++ tree ∷ [] →
-    IsGathered t g js (gathering_of rank own (map group_of (take len (new ++ drop (length new) old))) (map (λ s. s.src) pushed)) (map entries_of (take len (new ++ drop (length new) old))) count
-    × CanAbsorb t g js (gathering_of rank own (map group_of (take len (new ++ drop (length new) old))) (map (λ s. s.src) pushed)) theta pushed
+    len ≡ length old → map group_of new ≡ map group_of old → IsGathered t g js (with_source (gathering_of tree.dst own (map group_of old) trees) tree.src) (map entries_of new) count →
+    CanAbsorb t g js (gathering_of rank own (map group_of old) trees) theta trees → IsSentTo t g js rank tree → pushed ≡ trees ++ tree ∷ [] →
+    IsGathered t g js (gathering_of rank own (map group_of (take len (new ++ drop (length new) old))) pushed) (map entries_of (take len (new ++ drop (length new) old))) count
+    × CanAbsorb t g js (gathering_of rank own (map group_of (take len (new ++ drop (length new) old))) pushed) theta pushed
 absorbed_all t g js rank own old new len trees pushed tree count theta len_is same gathered absorbs sent pushed_are =
     let src_of : Essential → ℕ = λ s. s.src in
     let same_long : length new ≡ length old = sym (length-map new group_of) ∙ ap length same ∙ length-map old group_of in
     let whole = whole_again old new len len_is same_long in
     let groups = ap (map group_of) whole ∙ same in
     let sources : map src_of pushed ≡ map src_of trees ++ tree.src ∷ [] = ap (map src_of) pushed_are ∙ map-append src_of trees (tree ∷ []) in
-    let gather : gathering_of rank own (map group_of (take len (new ++ drop (length new) old))) (map src_of pushed) ≡ with_source (gathering_of tree.dst own (map group_of old) (map src_of trees)) tree.src =
-    λ i. gathering_of (sym sent.here i) own (groups i) (sources i) in (
+    let gather : gathering_of rank own (map group_of (take len (new ++ drop (length new) old))) pushed ≡ with_source (gathering_of tree.dst own (map group_of old) trees) tree.src =
+    λ i. record { rank = sym sent.here i; own = own; groups = groups i; absorbed = sources i } in (
       subst (λ (ga : Gathering). IsGathered t g js ga (map entries_of (take len (new ++ drop (length new) old))) count) (sym gather)
-          (subst (λ (ls : List Listed). IsGathered t g js (with_source (gathering_of tree.dst own (map group_of old) (map src_of trees)) tree.src) (map entries_of ls) count) (sym whole) gathered),
+          (subst (λ (ls : List Listed). IsGathered t g js (with_source (gathering_of tree.dst own (map group_of old) trees) tree.src) (map entries_of ls) count) (sym whole) gathered),
       record {
         criterion = absorbs.criterion;
         ordered = absorbs.ordered;
@@ -278,11 +278,11 @@ absorbed_all t g js rank own old new len trees pushed tree count theta len_is sa
 -- what a gather keeps before it has absorbed any
 pub opened_all : (t : Criterion) (g : Division) (js : List Particle) (rank : ℕ) (own bodies : List Particle) (groups : List Group) (listed : List Listed) (trees : List Essential) (count : ℕ) (theta : Criterion) →
     bodies ≡ own → map group_of listed ≡ groups → trees ≡ [] → theta ≡ t → IsInKeyOrder own → IsGathered t g js (own_gathering rank own groups) (map entries_of listed) count →
-    IsGathered t g js (gathering_of rank bodies (map group_of listed) (map (λ s. s.src) trees)) (map entries_of listed) count
-    × CanAbsorb t g js (gathering_of rank bodies (map group_of listed) (map (λ s. s.src) trees)) theta trees
+    IsGathered t g js (gathering_of rank bodies (map group_of listed) trees) (map entries_of listed) count
+    × CanAbsorb t g js (gathering_of rank bodies (map group_of listed) trees) theta trees
 opened_all t g js rank own bodies groups listed trees count theta bodies_are groups_are none criterion order gathered =
     let src_of : Essential → ℕ = λ s. s.src in
-    let gather : gathering_of rank bodies (map group_of listed) (map src_of trees) ≡ own_gathering rank own groups = λ i. gathering_of rank (bodies_are i) (groups_are i) (map src_of (none i)) in (
+    let gather : gathering_of rank bodies (map group_of listed) trees ≡ own_gathering rank own groups = λ i. gathering_of rank (bodies_are i) (groups_are i) (none i) in (
       subst (λ (ga : Gathering). IsGathered t g js ga (map entries_of listed) count) (sym gather) gathered,
       record {
         criterion = criterion;

@@ -22,16 +22,18 @@ pub record Gathering : Type 0 where
   pub groups : List Group
   pub absorbed : List ℕ
 
-abbrev pub gathering_of : ℕ → List Particle → List Group → List ℕ → Gathering
-gathering_of rank own groups absorbed = record { rank = rank; own = own; groups = groups; absorbed = absorbed }
+-- the gather of a rank that absorbed these trees, in this order
+abbrev pub gathering_of : ℕ → List Particle → List Group → List Essential → Gathering
+gathering_of rank own groups trees =
+    record { rank = rank; own = own; groups = groups; absorbed = map (λ tree. tree.src) trees }
 
--- before any rank is absorbed
+-- before any is absorbed
 abbrev pub own_gathering : ℕ → List Particle → List Group → Gathering
 own_gathering rank own groups = gathering_of rank own groups []
 
 -- after one rank more
 abbrev pub with_source : Gathering → ℕ → Gathering
-with_source gather src = gathering_of gather.rank gather.own gather.groups (gather.absorbed ++ src ∷ [])
+with_source gather src = record gather { absorbed = gather.absorbed ++ src ∷ [] }
 
 -- a source that can be absorbed: a rank that is neither the own one nor was absorbed
 pub record IsNewSource (g : Division) (gather : Gathering) (src : ℕ) : Type 0 where

@@ -35,15 +35,15 @@ pub(crate) fn absorb_tree<T: Terms, L: Ledger>(
     steps: &mut Steps<L>,
 ) -> Result<u64, OutOfMemory>
     requires gathered { IsGathered T.theta T.grid T.particles
-        (gathering_of tree.now.dst bodies.now (map (λ l. l.group) listed.old) (map (λ t. t.src) trees.now))
+        (gathering_of tree.now.dst bodies.now (map (λ l. l.group) listed.old) trees.now)
         (map (λ l. l.entries.items) listed.old) before }
     requires absorbs { CanAbsorb T.theta T.grid T.particles
-        (gathering_of tree.now.dst bodies.now (map (λ l. l.group) listed.old) (map (λ t. t.src) trees.now)) t trees.now }
+        (gathering_of tree.now.dst bodies.now (map (λ l. l.group) listed.old) trees.now) t trees.now }
     requires new { IsNewSource T.grid
-        (gathering_of tree.now.dst bodies.now (map (λ l. l.group) listed.old) (map (λ t. t.src) trees.now)) tree.now.src }
+        (gathering_of tree.now.dst bodies.now (map (λ l. l.group) listed.old) trees.now) tree.now.src }
     ensures groups { OnOk result (map (λ l. l.group) listed.new ≡ map (λ l. l.group) listed.old) }
     ensures gathered { IfOk result (λ count. IsGathered T.theta T.grid T.particles
-        (with_source (gathering_of tree.now.dst bodies.now (map (λ l. l.group) listed.old) (map (λ t. t.src) trees.now)) tree.now.src)
+        (with_source (gathering_of tree.now.dst bodies.now (map (λ l. l.group) listed.old) trees.now) tree.now.src)
         (map (λ l. l.entries.items) listed.new) count) }
     ensures tests { OnOk result (steps.new ≤ steps.old
         + (DEEPEST + 1) * source_count T.theta T.grid T.particles (map (λ l. l.group) listed.old) tree.now.src) }

@@ -44,14 +44,13 @@ impl<T: Terms> Model for Gather<T> {
 
     ghost Value = { Gathering };
 
-    ghost view = { λ g. gathering_of g.rank g.bodies.items (map (λ l. l.group) g.listed.items)
-        (map (λ t. t.src) g.trees.items) };
+    ghost view = { λ g. gathering_of g.rank g.bodies.items (map (λ l. l.group) g.listed.items) g.trees.items };
 
     ghost invariant = { λ g. IsGathered T.theta T.grid T.particles
-        (gathering_of g.rank g.bodies.items (map (λ l. l.group) g.listed.items) (map (λ t. t.src) g.trees.items))
+        (gathering_of g.rank g.bodies.items (map (λ l. l.group) g.listed.items) g.trees.items)
         (map (λ l. l.entries.items) g.listed.items) g.count
         × CanAbsorb T.theta T.grid T.particles
-        (gathering_of g.rank g.bodies.items (map (λ l. l.group) g.listed.items) (map (λ t. t.src) g.trees.items))
+        (gathering_of g.rank g.bodies.items (map (λ l. l.group) g.listed.items) g.trees.items)
         g.theta g.trees.items };
 }
 

@@ -12,7 +12,7 @@ pub loop-one-init : goal.loop-one-init
 loop-one-init g c =
     let t = g.T.Terms.theta in
     let js = g.T.Terms.particles in
-    let gather : Gathering = gathering_of c.args.tree.now.dst c.args.bodies.now (map (λ l. l.group) c.args.listed.now) (map (λ t. t.src) c.args.trees.now) in
+    let gather : Gathering = gathering_of c.args.tree.now.dst c.args.bodies.now (map (λ l. l.group) c.args.listed.now) c.args.trees.now in
     let before = partial_list t g.T.Terms.grid js gather in
     let after = partial_list t g.T.Terms.grid js (with_source gather c.args.tree.now.src) in
     let was = c.requires.gathered in
@@ -28,21 +28,21 @@ find_pieces-requires-clause-served g c =
     let k = c.loop-one.one-index in
     let one = get_or listed k c.one-item.result in
     let within : k < length listed = (let less = c.loop-one-test.true in let same = c.loop-one.auto.listed in omega arith) in
-    let gather : Gathering = gathering_of c.args.tree.now.dst c.args.bodies.now (map (λ l. l.group) c.args.listed.now) (map (λ t. t.src) c.args.trees.now) in
+    let gather : Gathering = gathering_of c.args.tree.now.dst c.args.bodies.now (map (λ l. l.group) c.args.listed.now) c.args.trees.now in
     served_at c.groups_are_served.ensures g.T.Terms.grid g.T.Terms.particles gather g.T.Terms.is_division g.T.Terms.within_limits c.requires.gathered.own c.requires.gathered.of_own
     listed k one c.loop-one.invariant.grown.same within (get_or_default listed k c.one-item.result one within)
 
 pub grow-requires-clause-pieces : goal.grow-requires-clause-pieces
 grow-requires-clause-pieces g c =
     let one = get_or c.loop-one.listed c.loop-one.one-index c.one-item.result in
-    let gather : Gathering = gathering_of c.args.tree.now.dst c.args.bodies.now (map (λ l. l.group) c.args.listed.now) (map (λ t. t.src) c.args.trees.now) in
+    let gather : Gathering = gathering_of c.args.tree.now.dst c.args.bodies.now (map (λ l. l.group) c.args.listed.now) c.args.trees.now in
     let order = c.pieces_are_in_order.ensures g.T.Terms.theta g.T.Terms.grid g.T.Terms.particles gather c.args.tree.now.src one.group g.T.Terms.are_bodies c.requires.new in
     subst IsInListOrder (sym (c.deref.ensures.value ∙ c.in_ok-find_pieces.ensures.pieces)) order.0
 
 pub grow-requires-clause-short : goal.grow-requires-clause-short
 grow-requires-clause-short g c =
     let one = get_or c.loop-one.listed c.loop-one.one-index c.one-item.result in
-    let gather : Gathering = gathering_of c.args.tree.now.dst c.args.bodies.now (map (λ l. l.group) c.args.listed.now) (map (λ t. t.src) c.args.trees.now) in
+    let gather : Gathering = gathering_of c.args.tree.now.dst c.args.bodies.now (map (λ l. l.group) c.args.listed.now) c.args.trees.now in
     let order = c.pieces_are_in_order.ensures g.T.Terms.theta g.T.Terms.grid g.T.Terms.particles gather c.args.tree.now.src one.group g.T.Terms.are_bodies c.requires.new in
     subst (λ (es : List Entry). length es ≤ 65536) (sym (c.deref.ensures.value ∙ c.in_ok-find_pieces.ensures.pieces)) order.3
 
@@ -52,7 +52,7 @@ grow-requires-clause-few g c =
     let k = c.loop-one.one-index in
     let one = get_or listed k c.one-item.result in
     let within : k < length listed = (let less = c.loop-one-test.true in let same = c.loop-one.auto.listed in omega arith) in
-    let gather : Gathering = gathering_of c.args.tree.now.dst c.args.bodies.now (map (λ l. l.group) c.args.listed.now) (map (λ t. t.src) c.args.trees.now) in
+    let gather : Gathering = gathering_of c.args.tree.now.dst c.args.bodies.now (map (λ l. l.group) c.args.listed.now) c.args.trees.now in
     order_kept c.pieces_make_lists.ensures c.pieces_are_in_order.ensures c.common_pieces_are_occupied.ensures g.T.Terms.theta g.T.Terms.grid g.T.Terms.particles gather c.args.tree.now.src g.T.Terms.are_bodies c.requires.new
     gather.groups c.args.before k listed c.loop-one.count one c.deref.result.now (leb c.args.before (2 ^ 24)) c.loop-one.invariant.grown within (get_or_default listed k c.one-item.result one within)
     (λ e. leb-true c.args.before (2 ^ 24) e) (c.deref.ensures.value ∙ c.in_ok-find_pieces.ensures.pieces)
@@ -67,7 +67,7 @@ loop-one-preserved g c =
     let one = get_or listed k c.one-item.result in
     let next : Listed = c.grow.new.one in
     let src = c.args.tree.now.src in
-    let gather : Gathering = gathering_of c.args.tree.now.dst c.args.bodies.now (map (λ l. l.group) c.args.listed.now) (map (λ t. t.src) c.args.trees.now) in
+    let gather : Gathering = gathering_of c.args.tree.now.dst c.args.bodies.now (map (λ l. l.group) c.args.listed.now) c.args.trees.now in
     let before = partial_list t grid js gather in
     let after = partial_list t grid js (with_source gather src) in
     let within : k < length listed = (let less = c.loop-one-test.true in let same = c.loop-one.auto.listed in omega arith) in
@@ -93,7 +93,7 @@ returns-clause-gathered g c =
     let grid = g.T.Terms.grid in
     let js = g.T.Terms.particles in
     let listed : List Listed = c.loop-one.listed in
-    let gather : Gathering = gathering_of c.args.tree.now.dst c.args.bodies.now (map (λ l. l.group) c.args.listed.now) (map (λ t. t.src) c.args.trees.now) in
+    let gather : Gathering = gathering_of c.args.tree.now.dst c.args.bodies.now (map (λ l. l.group) c.args.listed.now) c.args.trees.now in
     let before = partial_list t grid js gather in
     let after = partial_list t grid js (with_source gather c.args.tree.now.src) in
     let was = c.requires.gathered in

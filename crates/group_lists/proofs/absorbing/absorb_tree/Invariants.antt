@@ -10,7 +10,7 @@ invariant-loop-one g l =
     let grid = g.T.Terms.grid in
     let js = g.T.Terms.particles in
     let groups = map (λ l. l.group) l.initial.listed in
-    let gather = gathering_of l.tree.dst l.bodies groups (map (λ t. t.src) l.trees) in
+    let gather = gathering_of l.tree.dst l.bodies groups l.trees in
     record {
       grown : AreGrown (partial_list t grid js gather) (partial_list t grid js (with_source gather l.tree.src)) groups l.before l.one-index l.listed l.count;
       tests : l.steps ≤ l.initial.steps + 31 * sum_by (λ group. length (source_list t grid js l.tree.src group)) (take l.one-index groups);

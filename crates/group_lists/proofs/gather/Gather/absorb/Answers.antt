@@ -13,7 +13,7 @@ invariant_of-result g c =
     let tree = c.in_ok-tree.tree in
     let here : c.args.tree.dst ≡ c.self.inside.rank = c.requires.here ∙ ap (λ (v : Gathering). v.rank) (sym c.self.view_is) in
     let P : List Particle → List Listed → List Essential → Type 0 = λ own old trees.
-    IsGathered t g.T.Terms.grid js (with_source (gathering_of tree.dst own (map group_of old) (map (λ s. s.src) trees)) tree.src) (map entries_of c.absorb_tree.new.listed) c.in_ok-count.count in
+    IsGathered t g.T.Terms.grid js (with_source (gathering_of tree.dst own (map group_of old) trees) tree.src) (map entries_of c.absorb_tree.new.listed) c.in_ok-count.count in
     let gathered : P c.self.inside.bodies.items c.self.inside.listed.items c.self.inside.trees.items =
     subst (λ (own : List Particle). P own c.self.inside.listed.items c.self.inside.trees.items) c.deref.ensures.value
     (subst (λ (old : List Listed). P c.deref.result.now old c.self.inside.trees.items) c.deref_mut.ensures.value

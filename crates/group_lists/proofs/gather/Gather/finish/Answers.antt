@@ -16,7 +16,7 @@ lists_are g c =
     let js = g.T.Terms.particles in
     let small : c.self.inside.count ≤ 2 ^ 24 = (let counted = c.self.invariant.0.counted ∙ ap (gathered_count t g.T.Terms.grid js) c.self.view_is in let few = c.requires.few in omega arith) in
     let whole = subst (IsWhole g.T.Terms.grid) (sym c.self.view_is) c.requires.whole in
-    c.self.invariant.0.kept small ∙ ap (λ (f : Group → List Entry). map f (map (λ l. l.group) c.self.inside.listed.items)) (whole_partial c.all_ranks_have_all.ensures t g.T.Terms.grid js (gathering_of c.self.inside.rank c.self.inside.bodies.items (map (λ l. l.group) c.self.inside.listed.items) (map (λ t. t.src) c.self.inside.trees.items)) g.T.Terms.is_division whole)
+    c.self.invariant.0.kept small ∙ ap (λ (f : Group → List Entry). map f (map (λ l. l.group) c.self.inside.listed.items)) (whole_partial c.all_ranks_have_all.ensures t g.T.Terms.grid js (gathering_of c.self.inside.rank c.self.inside.bodies.items (map (λ l. l.group) c.self.inside.listed.items) c.self.inside.trees.items) g.T.Terms.is_division whole)
 
 pub of-requires-clause-each : goal.of-requires-clause-each
 of-requires-clause-each g c =

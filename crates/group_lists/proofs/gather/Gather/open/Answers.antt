@@ -22,4 +22,4 @@ invariant_of-result g c =
 pub returns : goal.returns
 returns g c =
     let bodies : c.in_ok-bodies.bodies.items ≡ c.args.tree.now.built = c.in_ok-bodies.ensures.items_if_clones_equal (λ x y h. h) ∙ c.bodies.ensures.value ∙ c.requires.unmoved in
-    λ i. gathering_of c.args.rank (bodies i) (c.in_ok-listed.ensures.each i) (map (λ (s : Essential). s.src) (c.new.ensures.items i))
+    λ i. gathering_of c.args.rank (bodies i) (c.in_ok-listed.ensures.each i) (c.new.ensures.items i)
