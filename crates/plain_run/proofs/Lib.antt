@@ -1,0 +1,5 @@
+mod CornerLemmas
+mod PieceLemmas
+mod SlabLemmas
+mod OwnedLemmas
+mod TreeLemmas

@@ -1,0 +1,13 @@
+use Rattle.std.proofs.Common.{◌∙◌, ap}
+use Rattle.std.proofs.lemmas.Result.{IfOk-weaker}
+use Rattle.pf_geom.specs.declared.axis.Axis.TheVariants.{Z}
+use Rattle.pf_model.specs.Division.{Division}
+use Rattle.pf_model.specs.Domains.{cuts_of}
+use Rattle.plain_run.specs.Axes.{along}
+use Rattle.plain_run.proofs.cutting.z_cuts.Goals as goal
+
+pub returns : goal.returns
+returns c =
+    let column = c.deref.ensures.value ∙ c.in_ok-column.ensures.value in
+    let nz = ap (λ (g : Division). g.nz) c.grid.view_is in
+    IfOk-weaker c.cut_along.result _ _ (λ cuts e. e ∙ (λ i. cuts_of (along Z) (column i) (nz i))) c.cut_along.ensures
