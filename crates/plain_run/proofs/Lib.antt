@@ -3,3 +3,8 @@ mod PieceLemmas
 mod SlabLemmas
 mod OwnedLemmas
 mod TreeLemmas
+mod TargetLemmas
+mod StepLemmas
+mod PairLemmas
+mod KeptLemmas
+mod MotionLemmas

@@ -5,7 +5,13 @@
 mod cutting;
 mod domains;
 mod essential;
+mod forces;
+mod grouping;
+mod kept;
 mod ordering;
+mod seen;
+mod targets;
 
 pub use domains::{slow_domain_box, slow_owner};
 pub use essential::slow_essential;
+pub use forces::{ForceStop, slow_forces};
