@@ -1,18 +1,17 @@
 -- Lists of a build, entry by entry, while their particles move.
-use Rattle.std.proofs.Common.{◌≡◌, ℕ, zero, suc, ◌+◌, ◌<◌, ◌≤◌, Bool, true, false, cond, ◌||◌, List, [], ◌∷◌, length, get_or, map, Option, Some, None, refl, sym, ap, subst, ◌∙◌, lit≤, arith, nat_eq, eq-eqb, eqb-true}
+use Rattle.std.proofs.Common.{◌≡◌, ℕ, zero, suc, ◌<◌, ◌≤◌, Bool, true, false, ◌||◌, List, [], ◌∷◌, length, get_or, Option, Some, None, refl, sym, ap, subst, ◌∙◌, lit≤, arith, nat_eq, eq-eqb}
 use Rattle.std.specs.List.{All, Contains, IsDistinct, filter, list_any}
 use Rattle.std.proofs.lemmas.Bool.{cond_both, or_left, or_right}
 use Rattle.std.proofs.lemmas.List.{length-map, get_or-map}
-use Rattle.std.proofs.lemmas.List.Elements.{All-map, Contains-get_or, All-contains}
+use Rattle.std.proofs.lemmas.List.Elements.{All-map, Contains-get_or}
 use Rattle.pf_geom.specs.Bounds.{Bounds}
 use Rattle.pf_geom.specs.Octant.{Octant, cell_at}
 use Rattle.pf_model.specs.declared.entry.Entry.{Entry}
-use Rattle.pf_model.specs.declared.entry.Entry.TheVariants.{Cell, One}
 use Rattle.pf_model.specs.Particle.{Particle}
 use Rattle.pf_model.specs.Particles.{AreBodies, HaveDistinctIds}
 use Rattle.pf_model.specs.Criterion.{Criterion}
 use Rattle.pf_model.specs.Sums.{moment_of}
-use Rattle.pf_model.specs.Interaction.{level_of, is_cell, is_cell_at, leads_to_cell, entry_at, entry_of, list_of, members_of}
+use Rattle.pf_model.specs.Interaction.{level_of, is_cell, is_cell_at, leads_to_cell, entry_at, list_of, members_of}
 use Rattle.pf_model.specs.ListLaws.{ListsHoldTheirEntries}
 use Rattle.pf_model.specs.Reuse.{present, present_entry, kept_list}
 use Rattle.plain_run.specs.Lists.{HasMembers, HaveOneOrder, is_of_cell}

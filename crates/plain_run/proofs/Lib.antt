@@ -8,3 +8,9 @@ mod StepLemmas
 mod PairLemmas
 mod KeptLemmas
 mod MotionLemmas
+mod MoveLemmas
+mod ListingLemmas
+mod StopLemmas
+mod CountLemmas
+mod StillLemmas
+mod ReachLemmas

@@ -23,7 +23,7 @@ use Rattle.kern_meaning.specs.Values.{components}
 use Rattle.pf_num.specs.Exact.{is_i64}
 use Rattle.run_model.specs.declared.fault.What.{What}
 use Rattle.run_model.specs.declared.fault.What.TheVariants as what
-use Rattle.run_model.specs.Force.{first_given, pair_fault, pairs_of, is_other, pair_with, contributions, combined, axes_of, force_over, sum_fault, force_fault}
+use Rattle.run_model.specs.Force.{first_given, pair_fault, pairs_of, is_other, contributions, combined, axes_of, force_over, sum_fault, force_fault}
 use Rattle.kern_types.specs.Declarations.{forces_of}
 use Rattle.plain_run.specs.declared.forces.ForceStop.{ForceStop}
 use Rattle.plain_run.specs.declared.forces.ForceStop.TheVariants.{Fault, Memory}

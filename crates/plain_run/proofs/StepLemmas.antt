@@ -1,8 +1,9 @@
 -- Lists element by element, as loops make them.
-use Rattle.std.proofs.Common.{◌≡◌, ℕ, suc, ◌+◌, ◌<◌, ◌≤◌, Bool, true, false, List, [], ◌∷◌, ◌++◌, length, get_or, drop, take, map, Option, Some, None, refl, sym, ap, ◌∙◌, add-one, arith, append_assoc}
-use Rattle.std.specs.Prelude.{flat_map}
+use Rattle.std.proofs.Common.{◌≡◌, ℕ, zero, suc, ◌+◌, ◌*◌, ◌<◌, ◌≤◌, List, [], ◌∷◌, ◌++◌, length, get_or, drop, take, map, Option, refl, sym, ap, ◌∙◌, add-one, arith, append_assoc}
+use Rattle.std.specs.List.{flat_map, range_with_len}
 use Rattle.std.proofs.Math.Seq.{drop-cons, take-suc}
-use Rattle.std.proofs.lemmas.List.{map-append, take_all, drop_all, append-nil}
+use Rattle.std.proofs.lemmas.List.{map-append, take_all, drop_all, append-nil, length-append}
+use Rattle.std.proofs.lemmas.List.Concat.{flat_map-append}
 use Rattle.pf_model.specs.Order.{first_some}
 use Rattle.run_model.specs.Force.{first_given}
 
@@ -22,3 +23,46 @@ first_given-drop f xs k x within here = rw (add-one, drop-cons xs k x within, �
 
 pub drop_next : {X : Type 0} (xs : List X) (k : ℕ) (x : X) → k < length xs → x ≡ get_or xs k x → drop k xs ≡ x ∷ drop (k + 1) xs
 drop_next xs k x within here = rw (add-one, drop-cons xs k x within, ← here) refl
+
+-- ---- lists joined
+
+-- one list more
+pub flat_next : {X Y : Type 0} (f : X → List Y) (xs : List X) (k : ℕ) (x : X) (items new piece whole : List Y) → k < length xs → x ≡ get_or xs k x → piece ≡ f x → new ≡ items ++ piece
+    → items ++ flat_map f (drop k xs) ≡ whole → new ++ flat_map f (drop (k + 1) xs) ≡ whole
+flat_next f xs k x items new piece whole within here is push so_far =
+    let rest = flat_map f (drop (k + 1) xs) in
+    ap (λ l. l ++ rest) (push ∙ ap (λ l. items ++ l) is) ∙ append_assoc items (f x) rest ∙ ap (λ l. items ++ l) (sym (ap (flat_map f) (drop_next xs k x within here))) ∙ so_far
+
+pub flat_end : {X Y : Type 0} (f : X → List Y) (xs : List X) (k : ℕ) (items whole : List Y) → length xs ≤ k → items ++ flat_map f (drop k xs) ≡ whole → items ≡ whole
+flat_end f xs k items whole past so_far = sym (append-nil items) ∙ ap (λ l. items ++ l) (sym (ap (flat_map f) (drop_all k xs past))) ∙ so_far
+
+pub flat_map-map : {X Y Z : Type 0} (f : Y → List Z) (g : X → Y) (xs : List X) → flat_map f (map g xs) ≡ flat_map (λ x. f (g x)) xs
+flat_map-map f g [] = refl
+flat_map-map f g (x ∷ xs) = ap (λ l. f (g x) ++ l) (flat_map-map f g xs)
+
+-- ---- ranges of numbers
+
+range-push : (a n : ℕ) → range_with_len a (suc n) ≡ range_with_len a n ++ (a + n) ∷ []
+range-push a zero = let e : a ≡ a + 0 = omega arith in ap (λ k. k ∷ []) e
+range-push a (suc n) =
+    let e : a + 1 + n ≡ a + suc n = omega arith in
+    ap (λ l. a ∷ l) (range-push (a + 1) n) ∙ ap (λ k. a ∷ (range_with_len (a + 1) n ++ k ∷ [])) e
+
+-- what a function gives at the numbers below n + 1
+pub range_next : {X : Type 0} (f : ℕ → List X) (n : ℕ) (xs ys : List X) → xs ≡ flat_map f (range_with_len 0 n) → ys ≡ f n → xs ++ ys ≡ flat_map f (range_with_len 0 (n + 1))
+range_next f n xs ys front here =
+    let e : n + 1 ≡ suc n = omega arith in
+    let z : 0 + n ≡ n = omega arith in
+    let more : flat_map f (range_with_len 0 (n + 1)) ≡ flat_map f (range_with_len 0 n) ++ f n =
+    ap (λ k. flat_map f (range_with_len 0 k)) e ∙ ap (flat_map f) (range-push 0 n) ∙ ap (λ k. flat_map f (range_with_len 0 n ++ k ∷ [])) z
+    ∙ flat_map-append f (range_with_len 0 n) (n ∷ []) ∙ ap (λ l. flat_map f (range_with_len 0 n) ++ l) (append-nil (f n)) in
+    (λ i. front i ++ here i) ∙ sym more
+
+-- lists of a bounded length
+pub length-flat_map-range : {X : Type 0} (f : ℕ → List X) (a n m : ℕ) → ((k : ℕ) → length (f k) ≤ m) → length (flat_map f (range_with_len a n)) ≤ n * m
+length-flat_map-range f a zero m each = omega arith
+length-flat_map-range f a (suc n) m each =
+    let long = length-append (f a) (flat_map f (range_with_len (a + 1) n)) in
+    let rest = length-flat_map-range f (a + 1) n m each in
+    let here = each a in
+    omega arith

@@ -111,13 +111,7 @@ fn first_pair_fault(
 }
 
 // The fault of a particle's pair with an entry. With itself it has none.
-fn fault_with(
-    t: &Typed,
-    edge: Edge,
-    i: &Body,
-    entry: &Entry,
-    scratch: &mut Scratch,
-) -> Option<What>
+fn fault_with(t: &Typed, edge: Edge, i: &Body, entry: &Entry, scratch: &mut Scratch) -> Option<What>
     requires members { HasMembers entry.now }
     requires made { IsMadeFor t.now scratch.old }
     ensures made { IsMadeFor t.now scratch.new }
@@ -339,13 +333,7 @@ fn fits(number: i128) -> bool
     LEAST_I64 <= number && number < PAST_I64
 }
 
-fn push_numbers(
-    row: &mut Vec<i64>,
-    kind: Kind,
-    x: i128,
-    y: i128,
-    z: i128,
-) -> Result<(), AllocError>
+fn push_numbers(row: &mut Vec<i64>, kind: Kind, x: i128, y: i128, z: i128) -> Result<(), AllocError>
     requires { IsTrue (list_all is_i64 (numbers_of kind x y z)) }
     ensures { OnOk result (row.new.items ≡ row.old.items ++ numbers_of kind x y z) }
 {

@@ -10,11 +10,7 @@ use pf_num::OutOfMemory;
 use std::alloc::Global;
 
 // The cells of a rank's groups, in the order of their corners.
-pub(crate) fn group_cells(
-    alloc: Global,
-    own: &[Body],
-    limit: u32,
-) -> Result<Vec<Cell>, OutOfMemory>
+pub(crate) fn group_cells(alloc: Global, own: &[Body], limit: u32) -> Result<Vec<Cell>, OutOfMemory>
     ensures { IfOk result (λ cells. cells.items ≡ group_cells limit own.now) }
 {
     let mut cells = Vec::new(alloc);

@@ -2,16 +2,28 @@
 // definition and in no hurry. It stands on run_model and pf_model, and on the pairs of kern_meaning.
 #![tactic(auto)]
 
+mod counts;
 mod cutting;
 mod domains;
 mod essential;
+mod forced;
 mod forces;
 mod grouping;
 mod kept;
+mod listing;
+mod motion;
+mod moves;
 mod ordering;
+mod run;
 mod seen;
+mod setup;
+mod state;
+mod stop;
 mod targets;
 
 pub use domains::{slow_domain_box, slow_owner};
 pub use essential::slow_essential;
 pub use forces::{ForceStop, slow_forces};
+pub use run::slow_text;
+pub use setup::RunSetup;
+pub use stop::SlowStop;

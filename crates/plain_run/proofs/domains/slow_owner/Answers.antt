@@ -1,7 +1,6 @@
-use Rattle.std.proofs.Common.{◌≡◌, ◌+◌, ◌*◌, ◌∙◌, ap, subst, arith}
-use Rattle.pf_geom.specs.Position.{Position}
+use Rattle.std.proofs.Common.{◌∙◌, subst, arith}
 use Rattle.pf_model.specs.Division.{IsDivision}
-use Rattle.pf_model.specs.Domains.{slab_of, owner}
+use Rattle.pf_model.specs.Domains.{slab_of}
 use Rattle.plain_run.proofs.PieceLemmas.{HasPlaces, owner_from_places}
 use Rattle.plain_run.proofs.domains.slow_owner.Goals as goal
 

@@ -1,4 +1,4 @@
-use Rattle.std.proofs.Common.{ap, ◌∙◌, ◌++◌, sym, arith}
+use Rattle.std.proofs.Common.{ap, ◌∙◌, ◌++◌}
 use Rattle.run_model.specs.Force.{pairs_of}
 use Rattle.plain_run.proofs.PairLemmas.{force_is, row_next, sums_fit, row_stops}
 use Rattle.plain_run.proofs.forces.row_of.Goals as goal

@@ -1,4 +1,4 @@
-use Rattle.std.proofs.Common.{◌≡◌, ◌≤◌, length, ap, ◌∙◌, take, arith}
+use Rattle.std.proofs.Common.{◌≡◌, length, ap, take, arith}
 use Rattle.std.proofs.lemmas.List.{length-take}
 use Rattle.pf_model.specs.Totals.{Totals}
 use Rattle.pf_model.specs.Sums.{moment_of}
