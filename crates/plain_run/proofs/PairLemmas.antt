@@ -27,7 +27,7 @@ use Rattle.run_model.specs.Force.{first_given, pair_fault, pairs_of, is_other, c
 use Rattle.kern_types.specs.Declarations.{forces_of}
 use Rattle.plain_run.specs.declared.forces.ForceStop.{ForceStop}
 use Rattle.plain_run.specs.declared.forces.ForceStop.TheVariants.{Fault, Memory}
-use Rattle.plain_run.specs.Forces.{StopsForces, IsSumStop, gives_to, slot_numbers, pairs_with, numbers_along, numbers_of, force_of}
+use Rattle.plain_run.specs.Forces.{IsForceStop, IsSumStop, gives_to, slot_numbers, pairs_with, numbers_along, axis_numbers, force_of}
 use Rattle.plain_run.proofs.StepLemmas.{drop_next}
 
 abbrev APair : Type 0
@@ -133,7 +133,7 @@ along_one : (combine : Combine) (values : List Value) (axis : ℕ) → numbers_a
 along_one combine values axis = ap (combined combine) (map-map components (λ v. slice_index_or v axis (pos 0)) values)
 
 force_by : (kind : Kind) (combine : Combine) (values : List Value)
-    → numbers_of kind (numbers_along combine (map components values) 0) (numbers_along combine (map components values) 1) (numbers_along combine (map components values) 2)
+    → axis_numbers kind (numbers_along combine (map components values) 0) (numbers_along combine (map components values) 1) (numbers_along combine (map components values) 2)
     ≡ map (λ axis. combined combine (map (λ value. slice_index_or (components value) axis (pos 0)) values)) (axes_of kind)
 force_by Num combine values = ap (λ x. x ∷ []) (along_one combine values 0)
 force_by Vec3 combine values = λ i. along_one combine values 0 i ∷ along_one combine values 1 i ∷ along_one combine values 2 i ∷ []
@@ -180,7 +180,7 @@ module _ (kernel : Kernel) (pairs : List APair) where
 
   -- a variable that stops the row is its first fault
   pub row_stops : (forces : List ForceVar) (k : ℕ) (v : ForceVar) (values : List (List ℤ)) (whole : Option What) (stop : ForceStop) → k < length forces → v ≡ get_or forces k v → values ≡ map components (flat_map (contributions kernel v) pairs)
-      → first_given (sum_fault kernel pairs) (enumerate_from (k + 1) (drop k forces)) ≡ whole → IsSumStop v (k + 1) values stop → StopsForces whole stop
+      → first_given (sum_fault kernel pairs) (enumerate_from (k + 1) (drop k forces)) ≡ whole → IsSumStop v (k + 1) values stop → IsForceStop whole stop
   row_stops forces k v values whole (Fault fault) within here is so_far h = sum_stops forces k v (force_of v values) whole within here (force_is kernel pairs v values is) h.0 so_far ∙ ap Some (sym h.1)
   row_stops forces k v values whole Memory within here is so_far h = tt
 

@@ -66,8 +66,8 @@ state_taken u built now =
     record { bodies = map (runs.kicked_again u) (runs.with_forces u built now); built = built }
 
 -- of the forces, and then of the second half kick
-abbrev pub taking_fault : Setup → List Particle → List Particle → Option Stop
-taking_fault u built now =
+abbrev pub forces_and_kick_fault : Setup → List Particle → List Particle → Option Stop
+forces_and_kick_fault u built now =
     first_some (first_given (runs.forces_fault u built now) now)
     (first_given (runs.kick_fault u) (runs.with_forces u built now))
 
@@ -78,8 +78,8 @@ build_fault u s before = if runs.is_build u s then runs.lists_fault u (runs.buil
 -- of what comes after the first moves
 abbrev pub later_fault : Setup → ℕ → State → Option Stop
 later_fault u s before =
-    first_some (build_fault u s before) (taking_fault u (runs.built_at u s before) (runs.moved u before))
+    first_some (build_fault u s before) (forces_and_kick_fault u (runs.built_at u s before) (runs.moved u before))
 
 -- the line of a particle of this owner
-abbrev pub line_of : Particle → ℕ → List ℤ → BodyLine
-line_of p owner forces = record { id = p.id; owner = owner; at = p.at; vel = p.vel; forces = forces }
+abbrev pub body_line_of : Particle → ℕ → List ℤ → BodyLine
+body_line_of p owner forces = record { id = p.id; owner = owner; at = p.at; vel = p.vel; forces = forces }

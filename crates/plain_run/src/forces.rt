@@ -1,4 +1,5 @@
-ghost use Rattle.std.specs.Prelude.{◌≡◌, ◌++◌, ◌<◌, ◌^◌, All, ℤ, pos, IfOk, OnOk, IfErr, Ok, Err, None, Some, List, [], IsTrue, true, flat_map, length, map, slice_get};
+ghost use Rattle.std.specs.Prelude.{◌≡◌, ◌++◌, ◌<◌, ◌^◌, All, ℤ, pos, IfOk, OnOk, IfErr, Ok};
+ghost use Rattle.std.specs.Prelude.{Err, None, Some, List, [], IsTrue, true, flat_map, length, map, slice_get};
 ghost use Rattle.std.specs.List.{enumerate_from, filter_map, list_all, zip};
 ghost use Rattle.pf_num.specs.Exact.{is_i64};
 ghost use Rattle.pf_model.specs.Interaction.{entry_source};
@@ -10,7 +11,8 @@ ghost use Rattle.kern_meaning.specs.declared.stop.PairStop.TheVariants.{Fault as
 ghost use Rattle.run_model.specs.Force as rules;
 ghost use Rattle.plain_run.specs.Lists.{HasMembers};
 ghost use Rattle.kern_tree.specs.declared.kernel.Combine.TheVariants.{Sum, Max, Min};
-ghost use Rattle.plain_run.specs.Forces.{StopsForces, IsSumStop, numbers_along, numbers_of, force_of, gives_to, slot_numbers, pairs_with};
+ghost use Rattle.plain_run.specs.Forces.{IsForceStop, IsSumStop, numbers_along, axis_numbers};
+ghost use Rattle.plain_run.specs.Forces.{force_of, gives_to, slot_numbers, pairs_with, row_over, first_sum_fault};
 
 use crate::seen::{exerted, received};
 use crate::targets::targets_of;
@@ -74,7 +76,7 @@ pub fn slow_forces(
     requires { All HasMembers entries.now }
     ensures forces { IfOk result (λ row. row ≡ rules.force_row edge t.now entries.now i.now) }
     ensures no_fault { OnOk result (rules.force_fault edge t.now entries.now i.now ≡ None) }
-    ensures fault { IfErr result (StopsForces (rules.force_fault edge t.now entries.now i.now)) }
+    ensures fault { IfErr result (IsForceStop (rules.force_fault edge t.now entries.now i.now)) }
 {
     parsed_kernels_keep_limits();
     let _kernel = kernel(t);
@@ -140,12 +142,10 @@ fn row_of(
     requires made { IsMadeFor t.now scratch.old }
     requires targets { targets.now ≡ targets_in t.now.body }
     requires few { length (forces_of t.now.decls) < 2 ^ 30 }
-    ensures row { IfOk result (λ row.
-        row.items ≡ flat_map (rules.force_over t.now (rules.pairs_of edge t.now entries.now i.now)) (forces_of t.now.decls)) }
-    ensures no_fault { OnOk result (rules.first_given
-        (rules.sum_fault t.now (rules.pairs_of edge t.now entries.now i.now)) (enumerate_from 1 (forces_of t.now.decls)) ≡ None) }
-    ensures fault { IfErr result (StopsForces (rules.first_given
-        (rules.sum_fault t.now (rules.pairs_of edge t.now entries.now i.now)) (enumerate_from 1 (forces_of t.now.decls)))) }
+    ensures row { IfOk result (λ row. row.items ≡ row_over t.now (rules.pairs_of edge t.now entries.now i.now)) }
+    ensures no_fault { OnOk result (first_sum_fault t.now (rules.pairs_of edge t.now entries.now i.now) ≡ None) }
+    ensures fault { IfErr result (IsForceStop
+        (first_sum_fault t.now (rules.pairs_of edge t.now entries.now i.now))) }
 {
     let forces = forces(t);
     let mut row = Vec::new(alloc);
@@ -319,7 +319,7 @@ fn push_force(
 
 // Whether the numbers of a variable of this kind are `i64`s.
 fn fit(kind: Kind, x: i128, y: i128, z: i128) -> bool
-    ensures { result ≡ list_all is_i64 (numbers_of kind x y z) }
+    ensures { result ≡ list_all is_i64 (axis_numbers kind x y z) }
 {
     match kind {
         Kind::Num => fits(x),
@@ -334,8 +334,8 @@ fn fits(number: i128) -> bool
 }
 
 fn push_numbers(row: &mut Vec<i64>, kind: Kind, x: i128, y: i128, z: i128) -> Result<(), AllocError>
-    requires { IsTrue (list_all is_i64 (numbers_of kind x y z)) }
-    ensures { OnOk result (row.new.items ≡ row.old.items ++ numbers_of kind x y z) }
+    requires { IsTrue (list_all is_i64 (axis_numbers kind x y z)) }
+    ensures { OnOk result (row.new.items ≡ row.old.items ++ axis_numbers kind x y z) }
 {
     match kind {
         Kind::Num => {

@@ -3,7 +3,7 @@ ghost use Rattle.pf_model.specs.Particles.{AreBodies};
 ghost use Rattle.run_model.specs.Run.{first_fault};
 ghost use Rattle.run_model.specs.Text as rules;
 ghost use Rattle.plain_run.specs.Reaching.{IsReached};
-ghost use Rattle.plain_run.specs.Runs.{StopsAt, line_of};
+ghost use Rattle.plain_run.specs.Runs.{StopsAt, body_line_of};
 
 use crate::counts::rank_lines;
 use crate::domains::slow_owner;
@@ -140,7 +140,7 @@ fn copied(alloc: Global, row: &Row) -> Result<Row, AllocError>
 }
 
 fn line(body: &Body, owner: u32, forces: Row) -> BodyLine
-    ensures { result ≡ line_of body.now owner forces }
+    ensures { result ≡ body_line_of body.now owner forces }
 {
     BodyLine {
         id: body.id,

@@ -4,7 +4,7 @@ ghost use Rattle.pf_model.specs.Groups.{all_groups, group_list};
 ghost use Rattle.run_model.specs.Force.{first_given};
 ghost use Rattle.run_model.specs.Run as rules;
 ghost use Rattle.plain_run.specs.Lists.{HaveOneOrder};
-ghost use Rattle.plain_run.specs.Runs.{StopsAt, build_fault, taking_fault, later_fault, state_taken, forced_by};
+ghost use Rattle.plain_run.specs.Runs.{StopsAt, build_fault, forces_and_kick_fault, later_fault, state_taken, forced_by};
 
 use crate::forced::Forced;
 use crate::forces::{ForceStop, slow_forces};
@@ -125,8 +125,8 @@ fn taken(
     requires built { AreBodies built.items }
     requires same { HaveOneOrder built.items now.now }
     ensures state { IfOk result (λ after. after ≡ state_taken run.now built.items now.now) }
-    ensures no_fault { OnOk result (taking_fault run.now built.items now.now ≡ None) }
-    ensures fault { IfErr result (StopsAt (taking_fault run.now built.items now.now)) }
+    ensures no_fault { OnOk result (forces_and_kick_fault run.now built.items now.now ≡ None) }
+    ensures fault { IfErr result (StopsAt (forces_and_kick_fault run.now built.items now.now)) }
 {
     let motion = Motion::of(&run.kernel, run.theta, run.dt);
     let mut bodies = with_forces(alloc, run, &built, now)?;

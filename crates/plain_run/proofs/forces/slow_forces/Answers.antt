@@ -1,7 +1,7 @@
 use Rattle.std.proofs.Common.{Option, sym, ◌∙◌, subst}
 use Rattle.run_model.specs.declared.fault.What.{What}
 use Rattle.run_model.specs.Force.{force_row}
-use Rattle.plain_run.specs.Forces.{StopsForces}
+use Rattle.plain_run.specs.Forces.{IsForceStop}
 use Rattle.plain_run.proofs.MotionLemmas.{forces_are_few}
 use Rattle.plain_run.proofs.PairLemmas.{pair_first, then_sums}
 use Rattle.plain_run.proofs.forces.slow_forces.Goals as goal
@@ -21,4 +21,4 @@ returns-in-Ok-clause-no_fault c = then_sums c.args.edge c.args.t.now c.args.entr
 
 pub returns-clause-fault : goal.returns-clause-fault
 returns-clause-fault c =
-    subst (λ (o : Option What). StopsForces o c.in-Err.stop) (sym (then_sums c.args.edge c.args.t.now c.args.entries.now c.args.i.now (sym c.in_default.is ∙ c.first_pair_fault.ensures.value))) c.in-Err.ensures.fault
+    subst (λ (o : Option What). IsForceStop o c.in-Err.stop) (sym (then_sums c.args.edge c.args.t.now c.args.entries.now c.args.i.now (sym c.in_default.is ∙ c.first_pair_fault.ensures.value))) c.in-Err.ensures.fault
