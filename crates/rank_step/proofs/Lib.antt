@@ -1,8 +1,11 @@
 pub mod BuildLemmas
 pub mod CountLemmas
+pub mod DealLemmas
 pub mod MotionLemmas
 pub mod MoveLemmas
+pub mod NowLemmas
 pub mod OrderLemmas
+pub mod PhaseLemmas
 pub mod FaultLemmas
 pub mod ForceLemmas
 pub mod StepLemmas

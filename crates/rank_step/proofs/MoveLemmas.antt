@@ -97,6 +97,10 @@ module _ {X : Type 0} (f : X → X) (xs ys : List X) (k : ℕ) (x : X) (within :
   here_before : x ≡ get_or (map f (take k xs) ++ drop k xs) k x
   here_before = here ∙ ap (λ (zs : List X). get_or zs k x) so_far
 
+  -- the element is still that of the list before
+  pub unchanged : x ≡ get_or xs k x
+  unchanged = next_is f xs k x within here_before
+
   pub set_more : (y : X) → y ≡ f (get_or ys k x) → set ys k y ≡ map f (take (k + 1) xs) ++ drop (k + 1) xs
   set_more y is = rw (add-one, so_far) (set_next f xs k x y within here_before (is ∙ ap f (sym here)))
 

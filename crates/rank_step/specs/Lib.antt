@@ -1,3 +1,5 @@
+pub mod Ranks
+pub mod Phases
 pub mod Build
 pub mod Answers
 pub mod Moves

@@ -4,11 +4,17 @@
 
 mod build;
 mod counts;
+mod exchanged;
 mod fault;
+mod first_ranks;
 mod forced;
 mod forces;
+mod held_now;
+mod inbox;
+mod leaving;
 mod motion;
 mod moves;
+mod settling;
 mod told;
 mod world;
 
