@@ -1,7 +1,7 @@
 -- The lists that a gather of all particles ends with.
 use Rattle.std.proofs.Common.{◌≡◌, ℕ, ◌+◌, ◌^◌, ◌<◌, ◌≤◌, List, [], ◌∷◌, ◌++◌, length, get_or, map, take, drop, Some, None, refl, sym, ◌∙◌, ap, subst, arith}
-use Rattle.std.specs.List.{All, Contains, flat_map, sum_by}
-use Rattle.std.specs.List.Sorted.{IsPermutation}
+use Rattle.std.specs.List.{All, Contains, flat_map, range_with_len, sum_by}
+use Rattle.std.specs.List.Sorted.{IsPermutation, IsStrictlyIncreasing}
 use Rattle.std.proofs.Math.Seq.{drop-length}
 use Rattle.std.proofs.lemmas.Bool.{cond_below, cond_above}
 use Rattle.std.proofs.lemmas.List.{length-map, get_or-map, drop-drop, take-append-drop}
@@ -14,12 +14,13 @@ use Rattle.pf_geom.specs.Octant.{Octant, cell_at}
 use Rattle.pf_model.specs.declared.entry.Entry.{Entry}
 use Rattle.pf_model.specs.Criterion.{Criterion}
 use Rattle.pf_model.specs.Division.{Division, IsDivision, rank_count}
-use Rattle.pf_model.specs.DomainLaws.{AllRanksHaveAll}
+use Rattle.pf_model.specs.DomainLaws.{AllRanksHaveAll, LoneRanksHaveAll}
+use Rattle.pf_model.specs.Domains.{particles_of}
 use Rattle.pf_model.specs.Group.{particles_in, group_cell, group_of, group_cells, box_of}
 use Rattle.pf_model.specs.GroupLaws.{GroupsIgnoreOrder, BoxesIgnoreOrder}
 use Rattle.pf_model.specs.Interaction.{is_cell, list_of}
 use Rattle.pf_model.specs.Particle.{Particle}
-use Rattle.pf_model.specs.Particles.{HaveDistinctIds}
+use Rattle.pf_model.specs.Particles.{HaveDistinctIds, by_id}
 use Rattle.morton_tree.specs.declared.group.Group.{Group}
 use Rattle.morton_tree.specs.declared.span.Span.{Span}
 use Rattle.morton_tree.specs.Spans.{at_span, FollowOneAnother}
@@ -31,7 +32,22 @@ use Rattle.run_model.specs.Run.{list_for, entry_count, lists_fault}
 use Rattle.run_model.specs.Run as stop
 use Rattle.run_model.specs.RunLaws.{lone_lists, IsLoneBuild, LoneRanksBuildSo}
 use Rattle.run_model.specs.Text.{cells_in, particles_within, rank_counts}
+use Rattle.exchange.specs.States.{Holding}
 use Rattle.rank_step.specs.Build.{BuildsBy, AreListsOf, AreGroupsOf, IsGatherOfAll, all_entries, counts_of}
+use Rattle.rank_step.specs.Ranks.{with_owners}
+use Rattle.rank_step.proofs.OrderLemmas.{ascend, by_id-ascending}
+
+-- ---- the one rank
+
+abbrev holding : ℕ → List Particle → Holding
+holding rank owned = record { rank = rank; bodies = owned }
+
+-- where there is one rank, it has all particles at a build
+pub lone_owner : LoneRanksHaveAll → (g : Division) (js : List Particle) → IsDivision g → g ≡ record { nx = 1; ny = 1; nz = 1 } → IsStrictlyIncreasing (map (λ p. p.id) js) → with_owners g js ≡ record { rank = 0; bodies = js } ∷ []
+lone_owner law g js division one up =
+    let alone : particles_of g js 0 ≡ js = (law g js division (ap rank_count one)).1 in
+    let by : by_id (particles_of g js 0) ≡ js = ap by_id alone ∙ by_id-ascending js (ascend js up) in
+    ap (λ n. map (λ rank. holding rank (by_id (particles_of g js rank))) (range_with_len 0 n)) (ap rank_count one) ∙ ap (λ l. holding 0 l ∷ []) by
 
 -- ---- the particles of the groups
 

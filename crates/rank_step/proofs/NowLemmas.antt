@@ -1,12 +1,11 @@
 -- Particles where they are now, found by their ids.
-use Rattle.std.proofs.Common.{◌≡◌, ℕ, zero, suc, ◌<◌, ◌≤◌, Bool, true, false, List, [], ◌∷◌, ◌++◌, length, get_or, map, nat_eq, nat_lt, Option, Some, None, inl, inr, refl, sym, ◌∙◌, ap, subst, arith}
+use Rattle.std.proofs.Common.{◌≡◌, ℕ, zero, suc, ◌<◌, true, false, List, [], ◌∷◌, ◌++◌, length, get_or, map, nat_eq, nat_lt, Some, None, inl, inr, refl, sym, ◌∙◌, ap, subst, arith}
 use Rattle.std.specs.Prelude.{find, unwrap_or}
-use Rattle.std.specs.List.{AllPairs, flat_map}
 use Rattle.std.specs.List.Sorted.{IsPermutation, IsNonDecreasingBy, IsPartitionPoint}
 use Rattle.std.proofs.lemmas.Bool.{cases_eq, cases_lt, cond-true, cond-false, cond_both, eq-eqb, eqb-true, ne_eqb, ltb-true, ltb-false}
 use Rattle.std.proofs.lemmas.List.{get_or_default, get_or-map, length-map, map-append}
 use Rattle.std.proofs.lemmas.List.Sorted.{IsPermutation-map}
-use Rattle.pf_model.specs.Division.{Division, rank_count}
+use Rattle.pf_model.specs.Division.{Division}
 use Rattle.pf_model.specs.Particle.{Particle}
 use Rattle.exchange.specs.States.{Holding, AreInIdOrder}
 use Rattle.exchange.specs.ExchangeLaws.{particles_held}

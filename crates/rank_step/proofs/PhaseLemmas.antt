@@ -1,9 +1,9 @@
 -- The phases Leave and Settle, over all ranks.
-use Rattle.std.proofs.Common.{◌≡◌, ℕ, zero, suc, ◌+◌, ◌<◌, ◌≤◌, Bool, true, false, cond, not, List, [], ◌∷◌, ◌++◌, length, get_or, set, take, map, nat_eq, inl, inr, refl, sym, ◌∙◌, ap, subst, arith}
+use Rattle.std.proofs.Common.{◌≡◌, ℕ, zero, suc, ◌+◌, ◌<◌, ◌≤◌, Bool, true, cond, not, List, [], ◌∷◌, ◌++◌, length, get_or, set, take, map, nat_eq, inl, inr, refl, sym, ◌∙◌, ap, subst, arith}
 use Rattle.std.specs.List.{All, Contains, filter, flat_map, range_with_len, zip}
 use Rattle.std.specs.List.Sorted.{IsPermutation, IsStrictlyIncreasing}
-use Rattle.std.proofs.lemmas.Bool.{cases_eq, cond-true, cond-false, cond_both, eq-eqb, ne_eqb, eqb-true, not_from_false, not_from_true}
-use Rattle.std.proofs.lemmas.List.{append-nil, take_more, same_lists, length-set, get_or-set_same, get_or-set_other, get_or_default, length-map, get_or-map}
+use Rattle.std.proofs.lemmas.Bool.{cases_eq, cond-true, cond-false, cond_both, eq-eqb, ne_eqb, not_from_false, not_from_true}
+use Rattle.std.proofs.lemmas.List.{append-nil, take_more, same_lists, length-set, get_or-set_same, get_or-set_other, get_or_default}
 use Rattle.std.proofs.lemmas.List.Concat.{flat_map-append}
 use Rattle.std.proofs.lemmas.List.Elements.{All-map, All-filter, filter-append}
 use Rattle.std.proofs.lemmas.List.FromFn.{length-map-range_with_len, get_or-map-range_with_len, get_or-range_with_len, length-range_with_len}
@@ -14,12 +14,12 @@ use Rattle.pf_model.specs.Domains.{Multisection, IsMultisection, owner, particle
 use Rattle.pf_model.specs.IdLaws.{OrdersByIdAreOne}
 use Rattle.pf_model.specs.Particle.{Particle}
 use Rattle.pf_model.specs.ParticleLaws.{DistinctIdsIgnoreOrder, SomeHaveDistinctIds}
-use Rattle.pf_model.specs.Particles.{AreBodies, HaveDistinctIds, by_id}
-use Rattle.exchange.specs.States.{Holding, Package, joined, left_with, owned_by, parcel_for, parcels_from, settled}
+use Rattle.pf_model.specs.Particles.{AreBodies, by_id}
+use Rattle.exchange.specs.States.{Holding, Package, joined, left_with, owned_by, parcel_for, parcels_from}
 use Rattle.exchange.specs.ExchangeLaws.{AreOfAllRanks, particles_held, parcels_to, HasItsOwn, EachRankHasItsOwn}
 use Rattle.rank_step.specs.Phases.{inboxes_with, settled_with}
 use Rattle.rank_step.specs.Ranks.{HaveTogether, with_owners}
-use Rattle.rank_step.proofs.DealLemmas.{dealt_out, have_together, kept_ascend, part}
+use Rattle.rank_step.proofs.DealLemmas.{dealt_out, have_together, kept_ascend}
 use Rattle.rank_step.proofs.StepLemmas.{written}
 use Rattle.rank_step.proofs.OrderLemmas.{ascend, by_id-ascending}
 

@@ -1,6 +1,6 @@
 -- The parts of a step, joined.
 use Rattle.std.proofs.Common.{◌≡◌, ℕ, ℤ, ◌+◌, ◌%◌, ◌<◌, ◌≤◌, zero, suc, Bool, true, List, [], ◌∷◌, ◌++◌, length, take, map, Option, Some, None, refl, sym, ◌∙◌, ap, subst, arith, add-one}
-use Rattle.std.specs.Prelude.{option_map, option_and_then, if◌then◌else◌, IsPermutation}
+use Rattle.std.specs.Prelude.{Result, Ok, Err, IfOk, option_map, option_and_then, if◌then◌else◌, IsPermutation}
 use Rattle.std.specs.List.Sorted.{IsStrictlyIncreasing, IsNonDecreasing, IsNonDecreasingBy}
 use Rattle.std.proofs.Math.Seq.{take-append_seam}
 use Rattle.std.proofs.lemmas.Map.Keys.{IsStrictlyIncreasing-from_distinct}
@@ -11,7 +11,7 @@ use Rattle.kern_tree.specs.declared.kernel.Kernel.{Kernel}
 use Rattle.pf_geom.specs.declared.edge.Edge.{Edge}
 use Rattle.pf_model.specs.declared.limits.TheConstants.{MOST_GROUP, MOST_PARTICLES}
 use Rattle.pf_model.specs.Criterion.{Criterion}
-use Rattle.pf_model.specs.Division.{IsDivision, rank_count}
+use Rattle.pf_model.specs.Division.{Division, IsDivision, rank_count}
 use Rattle.pf_model.specs.Order.{first_some}
 use Rattle.pf_model.specs.Particle.{Particle}
 use Rattle.pf_model.specs.IdLaws.{OrdersByIdAreOne}
@@ -35,7 +35,10 @@ use Rattle.rank_step.specs.declared.motion.Motion.{Motion}
 use Rattle.rank_step.specs.Moves.{MovesBy}
 use Rattle.rank_step.specs.Taken.{Takes, TakesBy, TakesFrom, taking_fault, without_forces}
 use Rattle.rank_step.specs.Told.{Reaches, own_row, own_text}
-use Rattle.rank_step.specs.World.{Standing, IsStanding, IsBefore, StandsFor, Steps}
+use Rattle.exchange.specs.States.{Holding}
+use Rattle.rank_step.specs.Ranks.{HaveTogether, held_now, with_owners}
+use Rattle.rank_step.specs.World.{Standing, IsStanding, IsSound, IsBefore, AreRanksBefore, StandsFor, Steps}
+use Rattle.rank_step.proofs.NowLemmas.{together_now}
 use Rattle.rank_step.proofs.OrderLemmas.{ascend, by_id-ascending, distinct-ascending}
 
 -- ---- one fault after another
@@ -143,6 +146,26 @@ module _ (group : ℕ) (bodies : List WithForces) (standing : IsStanding group b
     ascending = subst IsStrictlyIncreasing (sym e) standing.ascending;
   }
 
+-- the ranks of a world have together its particles where they are now
+pub ranks_now : (g : Division) (group : ℕ) (bodies : List WithForces) (ranks : List Holding) → IsSound g group bodies ranks → (now : List Particle) → map (λ p. p.id) now ≡ map (λ b. b.body.id) bodies →
+    (lent after : List Holding) → lent ≡ ranks → after ≡ map (held_now now) lent → HaveTogether g now after
+ranks_now g group bodies ranks sound now ids lent after of is =
+    subst (HaveTogether g now) (sym (is ∙ ap (map (held_now now)) of))
+    (together_now g now sound.as_built.built ranks (ascend now (ids_ascend group bodies sound.standing now ids)) (sound.as_built.same ∙ sym ids) sound.as_built.together)
+
+pub sound_after : (g : Division) (group : ℕ) (bodies : List WithForces) (ranks : List Holding) → IsSound g group bodies ranks → (now : List Particle) → map (λ p. p.id) now ≡ map (λ b. b.body.id) bodies →
+    (after : List WithForces) → map (λ b. b.body.id) after ≡ map (λ p. p.id) now → (to : List Holding) → HaveTogether g now to → IsSound g group after to
+sound_after g group bodies ranks sound now ids after same to together = record {
+  standing = stands_on group bodies sound.standing after (same ∙ ids);
+  one_rank = sound.one_rank;
+  as_built = record { built = now; same = sym same; together = together };
+}
+
+-- what two clauses say of one answer
+pub both_ok : {X E : Type 0} (P Q : X → Type 0) (r : Result X E) → IfOk r P → IfOk r Q → IfOk r (λ x. P x × Q x)
+both_ok P Q (Ok x) p q = (p, q)
+both_ok P Q (Err e) p q = tt
+
 pub map_body_ids : (bodies : List WithForces) (now : List Particle) → now ≡ map (λ b. b.body) bodies → map (λ (p : Particle). p.id) now ≡ map (λ (b : WithForces). b.body.id) bodies
 map_body_ids bodies now e = ap (map (λ (p : Particle). p.id)) e ∙ map_ids bodies
 
@@ -155,17 +178,18 @@ start_stops u read fault e h = same_stops (taking_fault u read) (fault_at_start 
 state_from : Setup → List Particle → State
 state_from u read = record { bodies = with_forces u read read; built = read }
 
-pub start_reaches : (u : Setup) (read : List Particle) (bodies : List WithForces) (line : RankLine) → read ≡ by_id u.particles → HaveDistinctIds read → taking_fault u read ≡ None → bodies ≡ with_forces u read read → line ≡ rank_counts u read 0 → Reaches u 0 bodies line
+pub start_reaches : (u : Setup) (read : List Particle) (bodies : List WithForces) (line : RankLine) (ranks : List Holding) → read ≡ by_id u.particles → HaveDistinctIds read → Takes u read bodies line ranks → Reaches u 0 bodies line ranks
 unfolding state first_fault state_from
-start_reaches u read bodies line e distinct none forces counts =
-    let no_fault : fault_at_start u ≡ None = ap (taking_fault u) (sym e) ∙ none in
+start_reaches u read bodies line ranks e distinct takes =
+    let no_fault : fault_at_start u ≡ None = ap (taking_fault u) (sym e) ∙ takes.no_fault in
     record {
       no_fault = no_fault;
       built = read;
       state =
-          ap (λ o. unless_stopped o (state_at_start u)) no_fault ∙ ap (λ r. Some (state_from u r)) (sym e) ∙ ap (λ (bs : List WithForces). Some (record { bodies = bs; built = read })) (sym forces);
+          ap (λ o. unless_stopped o (state_at_start u)) no_fault ∙ ap (λ r. Some (state_from u r)) (sym e) ∙ ap (λ (bs : List WithForces). Some (record { bodies = bs; built = read })) (sym takes.forces);
       distinct = distinct;
-      counts = counts;
+      counts = takes.counts;
+      owners = takes.owners;
     }
 
 -- ---- a step past 0
@@ -245,9 +269,9 @@ module _ (u : Setup) (due : ℕ) (bodies : List WithForces) (once : u.reuse ≡ 
       pub kick_stops : (fault : StepFault) → StopsAt (first_given (kick_fault u) (with_forces u now now)) fault → StopsBy u due fault
       kick_stops fault h = same_stops _ (first_fault u due) fault first_from (stops_later (taking_fault u now) (first_given (kick_fault u) (with_forces u now now)) fault takes h)
 
-      pub next_reaches : (after : List WithForces) (line : RankLine) → first_given (kick_fault u) (with_forces u now now) ≡ None → HaveDistinctIds now → after ≡ map (kicked_again u) (with_forces u now now) → line ≡ rank_counts u now 0 → Reaches u due after line
+      pub next_reaches : (after : List WithForces) (line : RankLine) (ranks : List Holding) → first_given (kick_fault u) (with_forces u now now) ≡ None → HaveDistinctIds now → after ≡ map (kicked_again u) (with_forces u now now) → line ≡ rank_counts u now 0 → ranks ≡ with_owners u.grid now → Reaches u due after line ranks
       unfolding rebuilt_state
-      next_reaches after line kicks distinct is counts =
+      next_reaches after line ranks kicks distinct is counts owners =
           let none = none_of_both (taking_fault u now) (first_given (kick_fault u) (with_forces u now now)) takes kicks in
           record {
             no_fault = sym first_from ∙ none;
@@ -258,6 +282,7 @@ module _ (u : Setup) (due : ℕ) (bodies : List WithForces) (once : u.reuse ≡ 
                 ∙ ap (λ (bs : List WithForces). Some (record { bodies = bs; built = now })) (sym is);
             distinct = distinct;
             counts = counts;
+            owners = owners;
           }
 
 -- ---- a world
@@ -266,11 +291,17 @@ module _ (u : Setup) (due : ℕ) (bodies : List WithForces) (once : u.reuse ≡ 
 pub stands_within : (inside w : Standing) (u : Setup) → inside ≡ w → StandsFor w u → StandsFor inside u
 stands_within inside w u view h = subst (λ (v : Standing). StandsFor v u) (sym view) h
 
-pub group_within : (inside w : Standing) (after : List WithForces) → inside ≡ w → IsStanding inside.group after → IsStanding w.group after
-group_within inside w after view h = subst (λ (v : Standing). IsStanding v.group after) view h
+pub sound_of : (inside w : Standing) → inside ≡ w → IsSound inside.grid inside.group inside.bodies inside.ranks → IsSound w.grid w.group w.bodies w.ranks
+sound_of inside w view h = subst (λ (v : Standing). IsSound v.grid v.group v.bodies v.ranks) view h
+
+abbrev pub ids_of : Standing → List ℕ
+ids_of w = map (λ b. b.body.id) w.bodies
 
 pub due_within : (inside w : Standing) (due : ℕ) → inside ≡ w → w.due ≡ due → inside.due ≡ due
 due_within inside w due view e = ap (λ (v : Standing). v.due) view ∙ e
+
+pub takes_within : (inside w : Standing) (u : Setup) → inside ≡ w → TakesBy w.kernel w.theta w.group u → TakesBy inside.kernel inside.theta inside.group u
+takes_within inside w u view h = subst (λ (v : Standing). TakesBy v.kernel v.theta v.group u) (sym view) h
 
 pub takes_by : (w : Standing) (u : Setup) → StandsFor w u → TakesBy w.kernel w.theta w.group u
 takes_by w u h = record { kernel = h.kernel; builds = record { theta = h.theta; group = h.group; one_rank = h.one_rank } }
@@ -285,10 +316,8 @@ read_from now read lent bodies same is of = same ∙ is ∙ ap (map (λ (b : Wit
 pub moved_from : (u : Setup) (now to : List Particle) (lent bodies : List WithForces) → now ≡ to → to ≡ map (moved_body u) lent → lent ≡ bodies → now ≡ map (moved_body u) bodies
 moved_from u now to lent bodies same is of = same ∙ is ∙ ap (map (moved_body u)) of
 
--- the forces on the particles of a world make a world
-pub takes_stand : (group : ℕ) (bodies : List WithForces) → IsStanding group bodies → (u : Setup) (now : List Particle) → map (λ p. p.id) now ≡ map (λ b. b.body.id) bodies → (after : List WithForces) (line : RankLine) → Takes u now after line → IsStanding group after
-takes_stand group bodies standing u now ids after line takes =
-    stands_on group bodies standing after (ap (map (λ (b : WithForces). b.body.id)) takes.forces ∙ with_forces_ids u now ∙ ids)
+pub takes_ids : (u : Setup) (now : List Particle) (after : List WithForces) (line : RankLine) (ranks : List Holding) → Takes u now after line ranks → map (λ (b : WithForces). b.body.id) after ≡ map (λ (p : Particle). p.id) now
+takes_ids u now after line ranks takes = ap (map (λ (b : WithForces). b.body.id)) takes.forces ∙ with_forces_ids u now
 
 read_at_start : (u : Setup) (due : ℕ) (bodies : List WithForces) → due ≡ 0 → IsBefore u due bodies → map (λ b. b.body) bodies ≡ by_id u.particles
 read_at_start u zero bodies start before = before
@@ -301,8 +330,8 @@ module _ (w : Standing) (u : Setup) (stands : StandsFor w u) (start : w.due ≡ 
   pub first_stops : (fault : StepFault) → StopsAt (taking_fault u read) fault → StopsBy u 0 fault
   first_stops fault h = start_stops u read fault as_read h
 
-  pub first_reaches : HaveDistinctIds read → (after : List WithForces) (line : RankLine) → Takes u read after line → Reaches u 0 after line
-  first_reaches distinct after line takes = start_reaches u read after line as_read distinct takes.no_fault takes.forces takes.counts
+  pub first_reaches : HaveDistinctIds read → (after : List WithForces) (line : RankLine) (ranks : List Holding) → Takes u read after line ranks → Reaches u 0 after line ranks
+  first_reaches distinct after line ranks takes = start_reaches u read after line ranks as_read distinct takes
 
 pub moves_by : (m : Motion) (k : Kernel) (t : Criterion) (dt : ℕ) → m.acc_place ≡ acc_place k → m.edge ≡ t.edge → m.dt ≡ dt → (u : Setup) → u.kernel ≡ k → u.theta ≡ t → u.dt ≡ dt → MovesBy m u
 moves_by m k t dt place at_edge timed u kernel theta step = record {
@@ -310,6 +339,9 @@ moves_by m k t dt place at_edge timed u kernel theta step = record {
   edge = ap (λ (c : Criterion). c.edge) theta ∙ sym at_edge;
   dt = step ∙ sym timed;
 }
+
+pub takes_in : (inside w : Standing) → inside ≡ w → (dt : ℕ) → TakesBy w.kernel w.theta w.group (run_by inside.kernel inside.theta inside.group dt)
+takes_in inside w view dt = subst (λ (v : Standing). TakesBy v.kernel v.theta v.group (run_by inside.kernel inside.theta inside.group dt)) view (run_takes inside.kernel inside.theta inside.group dt)
 
 pub run_moves : (m : Motion) (k : Kernel) (t : Criterion) (limit dt : ℕ) → m.acc_place ≡ acc_place k → m.edge ≡ t.edge → m.dt ≡ dt → MovesBy m (run_by k t limit dt)
 unfolding run_by
@@ -339,7 +371,7 @@ nondecreasing_ids (p ∷ ps) h i j d below within =
     omega (arith, at_i, at_j, least)
 
 module _ (keep : DistinctIdsIgnoreOrder) (read sorted : List Particle) (particles : AreBodies read) (same : IsPermutation read sorted) (order : IsNonDecreasingBy (λ (p : Particle). p.id) sorted) where
-  sorted_ascend : IsStrictlyIncreasing (map (λ p. p.id) sorted)
+  pub sorted_ascend : IsStrictlyIncreasing (map (λ p. p.id) sorted)
   sorted_ascend = IsStrictlyIncreasing-from_distinct (map (λ (p : Particle). p.id) sorted) (nondecreasing_ids sorted order) (keep read sorted same particles.distinct)
 
   pub opened_stands : (group : ℕ) → 1 ≤ group → group ≤ MOST_GROUP → (bodies : List WithForces) → bodies ≡ map without_forces sorted → IsStanding group bodies
@@ -354,9 +386,20 @@ module _ (keep : DistinctIdsIgnoreOrder) (read sorted : List Particle) (particle
     ascending = subst IsStrictlyIncreasing (sym (ap (map (λ (b : WithForces). b.body.id)) is ∙ fresh_ids sorted)) sorted_ascend;
   }
 
+  pub opened_sound : (g : Division) (group : ℕ) → 1 ≤ group → group ≤ MOST_GROUP → g ≡ record { nx = 1; ny = 1; nz = 1 } → (bodies : List WithForces) → bodies ≡ map without_forces sorted → (ranks : List Holding) →
+      HaveTogether g sorted ranks → IsSound g group bodies ranks
+  opened_sound g group some most one_rank bodies is ranks together = record {
+    standing = opened_stands group some most bodies is;
+    one_rank = one_rank;
+    as_built = record { built = sorted; same = sym (ap (map (λ (b : WithForces). b.body.id)) is ∙ fresh_ids sorted); together = together };
+  }
+
+  pub sorted_is : OrdersByIdAreOne → by_id read ≡ sorted
+  sorted_is one = one read sorted particles.distinct same ∙ by_id-ascending sorted (ascend sorted sorted_ascend)
+
   pub opened_is : OrdersByIdAreOne → (bodies : List WithForces) → bodies ≡ map without_forces sorted → map (λ (b : WithForces). b.body) bodies ≡ by_id read
   opened_is one bodies is =
-      ap (map (λ (b : WithForces). b.body)) is ∙ fresh_bodies sorted ∙ sym (one read sorted particles.distinct same ∙ by_id-ascending sorted (ascend sorted sorted_ascend))
+      ap (map (λ (b : WithForces). b.body)) is ∙ fresh_bodies sorted ∙ sym (sorted_is one)
 
 -- ---- what is told
 
@@ -372,9 +415,9 @@ rows_are u built lone (b ∷ bs) =
 text_with : ℕ → List RankLine → List BodyLine → StepText
 text_with s lines rows = record { step = s; ranks = lines; rows = rows }
 
-told_is : LoneRanksBuildSo → (u : Setup) (s : ℕ) (bodies : List WithForces) (line : RankLine) → u.grid ≡ record { nx = 1; ny = 1; nz = 1 } → Reaches u s bodies line → option_map (told u s) (state u s) ≡ Some (own_text s line bodies)
+told_is : LoneRanksBuildSo → (u : Setup) (s : ℕ) (bodies : List WithForces) (line : RankLine) (ranks : List Holding) → u.grid ≡ record { nx = 1; ny = 1; nz = 1 } → Reaches u s bodies line ranks → option_map (told u s) (state u s) ≡ Some (own_text s line bodies)
 unfolding text_with
-told_is law u s bodies line one reaches =
+told_is law u s bodies line have one reaches =
     let division : IsDivision u.grid = subst IsDivision (sym one) (record { some_x = omega arith; some_y = omega arith; some_z = omega arith; few = omega arith }) in
     let lone = law u reaches.built division (ap rank_count one) reaches.distinct in
     let lines : map (rank_counts u reaches.built) (ranks u) ≡ line ∷ [] = ap (map (rank_counts u reaches.built)) lone.ranks ∙ ap (λ (l : RankLine). l ∷ []) (sym reaches.counts) in
@@ -382,27 +425,35 @@ told_is law u s bodies line one reaches =
     ∙ ap (λ (ls : List RankLine). Some (text_with s ls (map (body_row u reaches.built) bodies))) lines
     ∙ ap (λ (rs : List BodyLine). Some (text_with s (line ∷ []) rs)) (rows_are u reaches.built lone bodies)
 
-before_next : (u : Setup) (s n : ℕ) (bodies : List WithForces) (line : RankLine) → n ≡ suc s → Reaches u s bodies line → IsBefore u n bodies
-before_next u s n bodies line e reaches = subst (λ (k : ℕ). IsBefore u k bodies) (sym e) (reaches.built, reaches.state)
+before_next : (u : Setup) (s n : ℕ) (bodies : List WithForces) (line : RankLine) (ranks : List Holding) → n ≡ suc s → Reaches u s bodies line ranks → IsBefore u n bodies
+before_next u s n bodies line ranks e reaches = subst (λ (k : ℕ). IsBefore u k bodies) (sym e) (reaches.built, reaches.state)
 
-steps_from : LoneRanksBuildSo → (w : Standing) (u : Setup) (bodies : List WithForces) (line : RankLine) (text : StepText) → StandsFor w u → Reaches u w.due bodies line → text ≡ own_text w.due line bodies → Steps u w.due (record w { due = w.due + 1; bodies = bodies }) text
-steps_from law w u bodies line text stands reaches is = record {
+ranks_next : (u : Setup) (s n : ℕ) (bodies : List WithForces) (line : RankLine) (ranks : List Holding) → n ≡ suc s → Reaches u s bodies line ranks → AreRanksBefore u n ranks
+ranks_next u s n bodies line ranks e reaches =
+    subst (λ (k : ℕ). AreRanksBefore u k ranks) (sym e) (record { bodies = bodies; built = reaches.built }, reaches.state, reaches.owners)
+
+steps_from : LoneRanksBuildSo → (w : Standing) (u : Setup) (bodies : List WithForces) (line : RankLine) (ranks : List Holding) (text : StepText) → StandsFor w u → Reaches u w.due bodies line ranks → text ≡ own_text w.due line bodies →
+    Steps u w.due (record w { due = w.due + 1; bodies = bodies; ranks = ranks }) text
+steps_from law w u bodies line ranks text stands reaches is = record {
   no_fault = reaches.no_fault;
-  told = told_is law u w.due bodies line stands.one_rank reaches ∙ ap Some (sym is);
+  told = told_is law u w.due bodies line ranks stands.one_rank reaches ∙ ap Some (sym is);
   due = add-one w.due;
   stands = record {
     kernel = stands.kernel;
+    grid = stands.grid;
     theta = stands.theta;
     group = stands.group;
     dt = stands.dt;
     one_rank = stands.one_rank;
     rebuilt = stands.rebuilt;
     particles = stands.particles;
-    before = before_next u w.due (w.due + 1) bodies line (add-one w.due) reaches;
+    before = before_next u w.due (w.due + 1) bodies line ranks (add-one w.due) reaches;
+    ranks = ranks_next u w.due (w.due + 1) bodies line ranks (add-one w.due) reaches;
   };
 }
 
-pub steps_on : LoneRanksBuildSo → (inside w : Standing) (u : Setup) (lent bodies : List WithForces) (line : RankLine) (text : StepText) → inside ≡ w → lent ≡ bodies → text ≡ own_text inside.due line lent → StandsFor w u → Reaches u w.due bodies line → Steps u w.due (record inside { due = inside.due + 1; bodies = bodies }) text
-steps_on law inside w u lent bodies line text view same is stands reaches =
+pub steps_on : LoneRanksBuildSo → (inside w : Standing) (u : Setup) (lent bodies : List WithForces) (line : RankLine) (ranks : List Holding) (text : StepText) → inside ≡ w → lent ≡ bodies → text ≡ own_text inside.due line lent → StandsFor w u →
+    Reaches u w.due bodies line ranks → Steps u w.due (record inside { due = inside.due + 1; bodies = bodies; ranks = ranks }) text
+steps_on law inside w u lent bodies line ranks text view same is stands reaches =
     let now : text ≡ own_text w.due line bodies = is ∙ ap (own_text inside.due line) same ∙ ap (λ (v : Standing). own_text v.due line bodies) view in
-    subst (λ (v : Standing). Steps u w.due (record v { due = v.due + 1; bodies = bodies }) text) (sym view) (steps_from law w u bodies line text stands reaches now)
+    subst (λ (v : Standing). Steps u w.due (record v { due = v.due + 1; bodies = bodies; ranks = ranks }) text) (sym view) (steps_from law w u bodies line ranks text stands reaches now)

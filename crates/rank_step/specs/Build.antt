@@ -56,7 +56,11 @@ pub record AreGroupsOf (limit : ℕ) (js own : List Particle) (groups : List Gro
   pub in_turn : FollowOneAnother 0 (length own) (map (λ g. g.span) groups)
   pub each : All (IsGroup limit own) groups
 
--- the gather of a rank that has all particles
-pub record IsGatherOfAll (limit : ℕ) (js : List Particle) (gather : Gathering) : Type 0 where
-  pub value : gather ≡ own_gathering 0 gather.own gather.groups
+-- the gather of this rank, which has these particles, before any other is absorbed
+pub record IsGatherOf (rank limit : ℕ) (js : List Particle) (gather : Gathering) : Type 0 where
+  pub value : gather ≡ own_gathering rank gather.own gather.groups
   pub groups : AreGroupsOf limit js gather.own gather.groups
+
+-- the gather of a rank that has all particles
+abbrev pub IsGatherOfAll : ℕ → List Particle → Gathering → Type 0
+IsGatherOfAll limit js gather = IsGatherOf 0 limit js gather

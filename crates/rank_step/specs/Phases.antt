@@ -1,5 +1,5 @@
 -- The phases Leave and Settle of a build.
-use Rattle.std.specs.Prelude.{ℕ, List, map, filter, nat_eq, ◌++◌}
+use Rattle.std.specs.Prelude.{ℕ, List, map, filter, nat_eq}
 use Rattle.std.specs.List.{range_with_len}
 use Rattle.exchange.specs.States.{Holding, Package, settled}
 

@@ -12,6 +12,8 @@ use Rattle.run_model.specs.Force.{first_given}
 use Rattle.run_model.specs.Setup.{Setup}
 use Rattle.run_model.specs.Run.{Stop, WithForces, with_forces, lists_fault, forces_fault}
 use Rattle.run_model.specs.Text.{rank_counts}
+use Rattle.exchange.specs.States.{Holding}
+use Rattle.rank_step.specs.Ranks.{with_owners}
 use Rattle.rank_step.specs.Build.{BuildsBy, AreListsOf}
 
 -- a run that builds by these and takes the forces of this kernel
@@ -29,11 +31,13 @@ pub record TakesFrom (k : Kernel) (e : Edge) (now : List Particle) (all : List G
 abbrev pub taking_fault : Setup → List Particle → Option Stop
 taking_fault u now = first_some (lists_fault u now) (first_given (forces_fault u now now) now)
 
--- the particles with the forces on them by a build of their own, which has no fault, and its counts
-pub record Takes (u : Setup) (now : List Particle) (bodies : List WithForces) (line : RankLine) : Type 0 where
+-- the particles with the forces on them by a build of their own, which has no fault, its counts, and the ranks at it
+pub record Takes (u : Setup) (now : List Particle) (bodies : List WithForces) (line : RankLine) (ranks : List Holding)
+    : Type 0 where
   pub no_fault : taking_fault u now ≡ None
   pub forces : bodies ≡ with_forces u now now
   pub counts : line ≡ rank_counts u now 0
+  pub owners : ranks ≡ with_owners u.grid now
 
 -- a particle and the row of numbers that it gets
 abbrev pub with_row : Particle × IdRow → WithForces

@@ -1,12 +1,17 @@
-ghost use Rattle.std.specs.Prelude.{◌≡◌, ◌<◌, ◌≤◌, None, OnOk, IfOk, IfErr, length};
+ghost use Rattle.std.specs.Prelude.{◌≡◌, ◌<◌, ◌≤◌, None, OnOk, IfOk, IfErr, IsPermutation, length, map};
+ghost use Rattle.std.specs.List.Sorted.{IsStrictlyIncreasing};
+ghost use Rattle.pf_model.specs.Division.{rank_count};
+ghost use Rattle.pf_model.specs.Domains.{particles_of};
 ghost use Rattle.pf_model.specs.Particles.{AreBodies};
 ghost use Rattle.run_model.specs.Setup.{Setup};
 ghost use Rattle.run_model.specs.Run.{lists_fault};
 ghost use Rattle.run_model.specs.Text.{rank_counts};
-ghost use Rattle.rank_step.specs.Build.{BuildsBy, AreListsOf, IsTooMany, IsGatherOfAll};
+ghost use Rattle.rank_step.specs.Build.{BuildsBy, AreListsOf, IsTooMany, IsGatherOf, IsGatherOfAll};
+ghost use Rattle.rank_step.specs.Ranks.{with_owners};
 
 use crate::counts::counts_of;
 use crate::fault::StepFault;
+use exchange::RankState;
 use group_lists::{Gather, Lists, MOST_ENTRIES};
 use morton_tree::Tree;
 use pf_model::{
@@ -27,42 +32,45 @@ pub(crate) struct Built {
     pub(crate) counts: RankLine,
 }
 
-/// The groups of these bodies with their lists, and what the text tells of them, unless the lists have more
-/// entries than the limit.
+/// The groups of the bodies that ranks have at a build, with their lists, and what the text tells of them, unless the
+/// lists have more entries than the limit.
 pub(crate) fn build<R: Threads + Sync>(
     rt: &R,
     alloc: Global,
-    bodies: &[Body],
+    ranks: &[RankState],
+    now: &[Body],
+    grid: Grid,
     theta: Theta,
     limit: u32,
 ) -> Result<Built, StepFault>
-    requires bodies { AreBodies bodies.now }
+    requires particles { AreBodies now.now }
+    requires ascending { IsStrictlyIncreasing (map (λ p. p.id) now.now) }
+    requires owners { ranks.now ≡ with_owners grid now.now }
+    requires one_rank { grid ≡ record { nx = 1; ny = 1; nz = 1 } }
     requires some { 1 ≤ limit }
     requires most { limit ≤ MOST_GROUP }
-    ensures lists { (u : Setup) → BuildsBy theta limit u → IfOk result (λ b. AreListsOf u bodies.now b.lists) }
-    ensures counts { (u : Setup) → BuildsBy theta limit u → IfOk result (λ b. b.counts ≡ rank_counts u bodies.now 0) }
-    ensures few { (u : Setup) → BuildsBy theta limit u → OnOk result (lists_fault u bodies.now ≡ None) }
-    ensures fault { (u : Setup) → BuildsBy theta limit u → IfErr result (IsTooMany u bodies.now) }
+    ensures lists { (u : Setup) → BuildsBy theta limit u → IfOk result (λ b. AreListsOf u now.now b.lists) }
+    ensures counts { (u : Setup) → BuildsBy theta limit u → IfOk result (λ b. b.counts ≡ rank_counts u now.now 0) }
+    ensures few { (u : Setup) → BuildsBy theta limit u → OnOk result (lists_fault u now.now ≡ None) }
+    ensures fault { (u : Setup) → BuildsBy theta limit u → IfErr result (IsTooMany u now.now) }
 {
-    let one_rank = Grid {
-        nx: 1,
-        ny: 1,
-        nz: 1,
-    };
-    let build = Build::of(bodies, one_rank, theta);
-    build_by::<R, Brand, Brand>(rt, alloc, build, limit, Blank::new(1))
+    let build = Build::of(now, grid, theta);
+    build_by::<R, Brand, Brand>(rt, alloc, ranks, build, limit, Blank::new(1))
 }
 
 // The same, in the terms of the build.
 fn build_by<R: Threads + Sync, T: Terms, L: Ledger>(
     rt: &R,
     alloc: Global,
+    ranks: &[RankState],
     build: Build<'_>,
     limit: u32,
     blank: Blank,
 ) -> Result<Built, StepFault>
     requires particles { T.particles ≡ build.bodies.now }
     requires theta { T.theta ≡ build.theta }
+    requires ascending { IsStrictlyIncreasing (map (λ p. p.id) T.particles) }
+    requires owners { ranks.now ≡ with_owners T.grid T.particles }
     requires one_rank { T.grid ≡ record { nx = 1; ny = 1; nz = 1 } }
     requires some { 1 ≤ limit }
     requires most { limit ≤ MOST_GROUP }
@@ -75,35 +83,38 @@ fn build_by<R: Threads + Sync, T: Terms, L: Ledger>(
     ensures few { (u : Setup) → BuildsBy T.theta limit u → OnOk result (lists_fault u T.particles ≡ None) }
     ensures fault { (u : Setup) → BuildsBy T.theta limit u → IfErr result (IsTooMany u T.particles) }
 {
+    lone_ranks_have_all();
     let particles = build.bodies.len() as u32;
-    let gather = gather_all::<R, T, L>(rt, alloc, build.bodies, build.theta, limit, blank)?;
+    let gather = gather_own::<R, T, L>(rt, alloc, &ranks[0], 1, build.theta, limit, blank)?;
     finish(alloc, particles, limit, gather)
 }
 
-// The gather of a rank that has all bodies.
-fn gather_all<R: Threads + Sync, T: Terms, L: Ledger>(
+// The tree of a rank, its groups, and the gather of its own bodies.
+fn gather_own<R: Threads + Sync, T: Terms, L: Ledger>(
     rt: &R,
     alloc: Global,
-    bodies: &[Body],
+    state: &RankState,
+    ranks: u32,
     theta: Theta,
     limit: u32,
     blank: Blank,
 ) -> Result<Gather<T>, OutOfMemory>
-    requires particles { T.particles ≡ bodies.now }
+    requires bodies { AreBodies state.now.bodies }
+    requires own { IsPermutation state.now.bodies (particles_of T.grid T.particles state.now.rank) }
+    requires rank { state.now.rank < ranks }
+    requires ranks { rank_count T.grid ≡ ranks }
     requires theta { T.theta ≡ theta }
-    requires one_rank { T.grid ≡ record { nx = 1; ny = 1; nz = 1 } }
     requires some { 1 ≤ limit }
     requires most { limit ≤ MOST_GROUP }
     requires name { blank.name ≡ L.name }
     requires parts { blank.parts ≡ L.parts }
     requires share { 0 < L.parts }
-    ensures { IfOk result (IsGatherOfAll limit T.particles) }
+    ensures { IfOk result (IsGatherOf state.now.rank limit state.now.bodies) }
 {
-    lone_ranks_have_all();
-    let tree = Tree::build(rt, alloc, bodies.to_vec(alloc)?)?;
+    let tree = Tree::build(rt, alloc, state.bodies.to_vec(alloc)?)?;
     let groups = tree.groups(alloc, limit)?;
     let mut steps = Steps::new(blank);
-    Gather::<T>::open::<L>(alloc, 0, 1, &tree, &groups, theta, &mut steps)
+    Gather::<T>::open::<L>(alloc, state.rank, ranks, &tree, &groups, theta, &mut steps)
 }
 
 // The lists that were gathered of all particles, unless they have more entries than the limit.

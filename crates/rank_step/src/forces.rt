@@ -8,49 +8,61 @@ ghost use Rattle.run_model.specs.Force.{first_given};
 ghost use Rattle.run_model.specs.Run as rules;
 ghost use Rattle.run_model.specs.Run.{forces_fault};
 ghost use Rattle.rank_step.specs.Answers.{StopsAt};
+ghost use Rattle.rank_step.specs.Ranks.{HaveTogether};
 ghost use Rattle.rank_step.specs.Taken.{Takes, TakesBy, TakesFrom, taking_fault, with_row};
 
 use crate::build::build;
+use crate::exchanged::exchanged;
 use crate::fault::StepFault;
 use crate::forced::Forced;
+use exchange::RankState;
 use force_phase::{IdRow, forces};
 use group_lists::Lists;
 use kern_types::Typed;
 use pf_geom::Edge;
-use pf_model::{Body, MOST_GROUP, Theta, distinct_ids_ignore_order, orders_by_id_are_one};
+use pf_model::{Body, Grid, MOST_GROUP, Theta, distinct_ids_ignore_order, orders_by_id_are_one};
 use run_model::RankLine;
 use std::alloc::{AllocError, Global};
 use std::thread::Threads;
 
-/// Particles with the forces on them, and the counts of the build.
+/// Particles with the forces on them, the counts of the build, and the ranks at it.
 #[derive(Drop)]
 pub(crate) struct Taken {
     pub(crate) bodies: Vec<Forced>,
     pub(crate) counts: RankLine,
+    pub(crate) ranks: Vec<RankState>,
 }
 
-/// A build on particles by ascending id, and the forces on them by its lists.
+/// A build on particles by ascending id, which come from the ranks that have them to their owners, and the forces on
+/// them by its lists.
 pub(crate) fn build_and_take<R: Threads + Sync>(
     rt: &R,
     alloc: Global,
     t: &Typed,
+    grid: Grid,
     theta: Theta,
     group: u32,
+    ranks: Vec<RankState>,
     now: &[Body],
 ) -> Result<Taken, StepFault>
     requires particles { AreBodies now.now }
     requires ascending { IsStrictlyIncreasing (map (λ p. p.id) now.now) }
+    requires together { HaveTogether grid now.now ranks.items }
+    requires one_rank { grid ≡ record { nx = 1; ny = 1; nz = 1 } }
     requires some { 1 ≤ group }
     requires most { group ≤ MOST_GROUP }
     ensures taken { (u : Setup) → TakesBy t.now theta group u
-        → IfOk result (λ taken. Takes u now.now taken.bodies.items taken.counts) }
+        → IfOk result (λ taken. Takes u now.now taken.bodies.items taken.counts taken.ranks.items) }
+    ensures together { IfOk result (λ taken. HaveTogether grid now.now taken.ranks.items) }
     ensures fault { (u : Setup) → TakesBy t.now theta group u → IfErr result (StopsAt (taking_fault u now.now)) }
 {
     distinct_ids_ignore_order();
-    let built = build(rt, alloc, now, theta, group)?;
+    let ranks = exchanged(alloc, ranks, now, grid)?;
+    let built = build(rt, alloc, &ranks, now, grid, theta, group)?;
     Ok(Taken {
         bodies: with_forces(alloc, t, theta.edge, &built.lists, now)?,
         counts: built.counts,
+        ranks,
     })
 }
 

@@ -2,17 +2,21 @@ ghost use Rattle.std.specs.Prelude.{◌≡◌, ◌≤◌, ◌^◌, ◌<◌, IfOk
 ghost use Rattle.std.specs.List.Sorted.{IsNonDecreasingBy};
 ghost use Rattle.pf_model.specs.Particles.{AreBodies};
 ghost use Rattle.run_model.specs.Setup.{Setup};
-ghost use Rattle.rank_step.specs.World.{IsStanding, StandsFor, Steps};
-ghost use Rattle.rank_step.specs.Taken.{without_forces};
+ghost use Rattle.rank_step.specs.World.{IsSound, StandsFor, Steps};
+ghost use Rattle.rank_step.specs.Ranks.{HaveTogether};
+ghost use Rattle.rank_step.specs.Taken.{Takes, TakesBy, taking_fault, without_forces};
 ghost use Rattle.rank_step.specs.Told.{Reaches};
-ghost use Rattle.rank_step.specs.Answers.{StopsBy};
+ghost use Rattle.rank_step.specs.Answers.{StopsAt, StopsBy};
 
 use crate::fault::StepFault;
+use crate::first_ranks::first_ranks;
 use crate::forced::Forced;
 use crate::forces::{Taken, build_and_take};
+use crate::held_now::held_now;
 use crate::motion::Motion;
 use crate::moves::{kick_again, moved};
 use crate::told::told;
+use exchange::RankState;
 use kern_types::Typed;
 use pf_io::Gate;
 use pf_model::{Body, Grid, MOST_GROUP, Theta, distinct_ids_ignore_order, orders_by_id_are_one};
@@ -43,22 +47,25 @@ pub struct StepReport {
     pub text: StepText,
 }
 
-/// All particles of a run, before its next step.
+/// All particles of a run, and the ranks that have them, before its next step.
 #[derive(Drop)]
 pub struct World {
     kernel: Typed,
+    grid: Grid,
     theta: Theta,
     group: u32,
     dt: u32,
     due: u32,
     /// By ascending id.
     bodies: Vec<Forced>,
+    /// By number, with their particles as they were at the last build.
+    ranks: Vec<RankState>,
 }
 
 impl Model for World {
     ghost use Rattle.std.specs.Coded.{codes};
     ghost use Rattle.kern_tree.specs.contracts.kernel.Kernel as kernel_type;
-    ghost use Rattle.rank_step.specs.World.{Standing, IsStanding};
+    ghost use Rattle.rank_step.specs.World.{Standing, IsSound};
 
     ghost Value = { Standing };
 
@@ -66,14 +73,16 @@ impl Model for World {
 
     ghost view = { λ w. record {
       kernel = w.kernel;
+      grid = w.grid;
       theta = w.theta;
       group = w.group;
       dt = w.dt;
       due = w.due;
       bodies = w.bodies.items;
+      ranks = w.ranks.items;
     } };
 
-    ghost invariant = { λ w. IsStanding w.group w.bodies.items };
+    ghost invariant = { λ w. IsSound w.grid w.group w.bodies.items w.ranks.items };
 }
 
 impl World {
@@ -103,11 +112,13 @@ impl World {
         sort_by_id(&mut bodies);
         Ok(World {
             kernel: t,
+            grid: s.grid,
             theta: s.theta,
             group: s.group,
             dt: s.dt,
             due: 0,
             bodies: without_forces(alloc, &bodies)?,
+            ranks: first_ranks(alloc, &bodies, s.grid)?,
         })
     }
 
@@ -130,9 +141,10 @@ impl World {
 
     // The particles after the next step, with the forces on them.
     fn taken<R: Threads + Sync>(&self, rt: &R, alloc: Global) -> Result<Taken, StepFault>
-        ensures standing { IfOk result (λ taken. IsStanding self.now.group taken.bodies.items) }
+        ensures sound { IfOk result (λ taken.
+            IsSound self.now.grid self.now.group taken.bodies.items taken.ranks.items) }
         ensures ok { (u : Setup) → StandsFor self.now u
-            → IfOk result (λ taken. Reaches u self.now.due taken.bodies.items taken.counts) }
+            → IfOk result (λ taken. Reaches u self.now.due taken.bodies.items taken.counts taken.ranks.items) }
         ensures fault { (u : Setup) → StandsFor self.now u → IfErr result (StopsBy u self.now.due) }
     {
         if self.due == 0 {
@@ -145,47 +157,78 @@ impl World {
     // Step 0: a build, and the forces.
     fn first<R: Threads + Sync>(&self, rt: &R, alloc: Global) -> Result<Taken, StepFault>
         requires { self.now.due ≡ 0 }
-        ensures standing { IfOk result (λ taken. IsStanding self.now.group taken.bodies.items) }
+        ensures sound { IfOk result (λ taken.
+            IsSound self.now.grid self.now.group taken.bodies.items taken.ranks.items) }
         ensures ok { (u : Setup) → StandsFor self.now u
-            → IfOk result (λ taken. Reaches u 0 taken.bodies.items taken.counts) }
+            → IfOk result (λ taken. Reaches u 0 taken.bodies.items taken.counts taken.ranks.items) }
         ensures fault { (u : Setup) → StandsFor self.now u → IfErr result (StopsBy u 0) }
     {
         let read = bodies_of(alloc, &self.bodies)?;
-        build_and_take(rt, alloc, &self.kernel, self.theta, self.group, &read)
+        self.build(rt, alloc, &read)
     }
 
     // A step past 0: half a kick, a drift, a build, the forces, and half a kick.
     fn next<R: Threads + Sync>(&self, rt: &R, alloc: Global) -> Result<Taken, StepFault>
         requires { 1 ≤ self.now.due }
-        ensures standing { IfOk result (λ taken. IsStanding self.now.group taken.bodies.items) }
+        ensures sound { IfOk result (λ taken.
+            IsSound self.now.grid self.now.group taken.bodies.items taken.ranks.items) }
         ensures ok { (u : Setup) → StandsFor self.now u
-            → IfOk result (λ taken. Reaches u self.now.due taken.bodies.items taken.counts) }
+            → IfOk result (λ taken. Reaches u self.now.due taken.bodies.items taken.counts taken.ranks.items) }
         ensures fault { (u : Setup) → StandsFor self.now u → IfErr result (StopsBy u self.now.due) }
     {
         let motion = Motion::of(&self.kernel, self.theta, self.dt);
         let now = moved(alloc, motion, &self.bodies)?;
-        let mut taken = build_and_take(rt, alloc, &self.kernel, self.theta, self.group, &now)?;
+        let mut taken = self.build(rt, alloc, &now)?;
         kick_again(motion, &mut taken.bodies)?;
         Ok(taken)
+    }
+
+    // A build on the particles where they are now, and the forces on them.
+    fn build<R: Threads + Sync>(
+        &self,
+        rt: &R,
+        alloc: Global,
+        now: &[Body],
+    ) -> Result<Taken, StepFault>
+        requires same { map (λ p. p.id) now.now ≡ map (λ b. b.body.id) self.now.bodies }
+        ensures taken { (u : Setup) → TakesBy self.now.kernel self.now.theta self.now.group u
+            → IfOk result (λ taken. Takes u now.now taken.bodies.items taken.counts taken.ranks.items) }
+        ensures together { IfOk result (λ taken. HaveTogether self.now.grid now.now taken.ranks.items) }
+        ensures fault { (u : Setup) → TakesBy self.now.kernel self.now.theta self.now.group u
+            → IfErr result (StopsAt (taking_fault u now.now)) }
+    {
+        let ranks = held_now(alloc, &self.ranks, now)?;
+        build_and_take(
+            rt,
+            alloc,
+            &self.kernel,
+            self.grid,
+            self.theta,
+            self.group,
+            ranks,
+            now,
+        )
     }
 
     // The world after the step, and what the step tells.
     fn after(self, alloc: Global, taken: Taken) -> Result<(World, StepReport), StepFault>
         requires few { self.due < 2 ^ 31 }
-        requires standing { IsStanding self.group taken.bodies.items }
+        requires sound { IsSound self.grid self.group taken.bodies.items taken.ranks.items }
         ensures ok { IfOk result (λ r. (u : Setup) → StandsFor self u
-            → Reaches u self.due taken.bodies.items taken.counts → Steps u self.due r.0 r.1.text) }
+            → Reaches u self.due taken.bodies.items taken.counts taken.ranks.items → Steps u self.due r.0 r.1.text) }
         ensures fault { IfErr result (λ f. f ≡ StepFault.Memory) }
     {
         lone_ranks_build_so();
         let text = told(alloc, self.due, taken.counts, &taken.bodies)?;
         let after = World {
             kernel: self.kernel,
+            grid: self.grid,
             theta: self.theta,
             group: self.group,
             dt: self.dt,
             due: self.due + 1,
             bodies: taken.bodies,
+            ranks: taken.ranks,
         };
         Ok((after, StepReport { text }))
     }

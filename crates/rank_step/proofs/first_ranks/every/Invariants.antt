@@ -1,4 +1,4 @@
-use Rattle.std.proofs.Common.{◌≡◌, ◌%◌, ℕ, take, map, nat_eq}
+use Rattle.std.proofs.Common.{◌≡◌, ◌%◌, take, map, nat_eq}
 use Rattle.std.specs.List.{enumerate_from, filter}
 use Rattle.rank_step.proofs.first_ranks.every.Given as goal
 

@@ -1,8 +1,7 @@
-use Rattle.std.proofs.Common.{◌≡◌, ℕ, ◌*◌, ◌≤◌, ◌++◌, ◌∷◌, [], List, map, sym, ◌∙◌, ap, subst, arith}
+use Rattle.std.proofs.Common.{◌≡◌, ℕ, ◌*◌, ◌++◌, ◌∷◌, [], map, sym, ◌∙◌, ap, subst, arith}
 use Rattle.std.specs.List.{range_with_len}
 use Rattle.std.proofs.lemmas.List.FromFn.{map-range_with_len_more}
 use Rattle.pf_model.specs.Division.{IsDivision, rank_count}
-use Rattle.exchange.specs.States.{Holding}
 use Rattle.rank_step.specs.Ranks.{HaveTogether, dealt_to, first_ranks}
 use Rattle.rank_step.proofs.DealLemmas.{first_together, some_ranks, rank_with}
 use Rattle.rank_step.proofs.first_ranks.first_ranks.Goals as goal

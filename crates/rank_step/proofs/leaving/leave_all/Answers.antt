@@ -1,8 +1,8 @@
-use Rattle.std.proofs.Common.{◌≡◌, ◌<◌, ◌++◌, List, length, get_or, map, take, drop, sym, ◌∙◌, ap, subst, arith}
+use Rattle.std.proofs.Common.{◌<◌, ◌++◌, length, get_or, take, sym, ◌∙◌, ap, subst, arith}
 use Rattle.std.specs.List.{All, flat_map}
 use Rattle.std.proofs.lemmas.List.{take_all}
 use Rattle.pf_model.specs.Division.{rank_count}
-use Rattle.exchange.specs.States.{Package, Holding, left_with, parcels_from}
+use Rattle.exchange.specs.States.{Package, left_with, parcels_from}
 use Rattle.rank_step.specs.Phases.{inboxes_with}
 use Rattle.rank_step.proofs.MoveLemmas.{set_more, unchanged}
 use Rattle.rank_step.proofs.PhaseLemmas.{sent_to_ranks, sent_more, inbox_count, all_came}
