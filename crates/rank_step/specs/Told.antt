@@ -20,7 +20,8 @@ abbrev pub own_text : ℕ → RankLine → List WithForces → StepText
 own_text s counts bodies = record { step = s; ranks = counts ∷ []; rows = map own_row bodies }
 
 -- the step has no fault, and its state has these particles, these counts of a build of its own, and these ranks
-pub record Reaches (u : Setup) (s : ℕ) (bodies : List WithForces) (line : RankLine) (ranks : List Holding) : Type 0 where
+pub record Reaches (u : Setup) (s : ℕ) (bodies : List WithForces) (line : RankLine) (ranks : List Holding)
+    : Type 0 where
   pub no_fault : first_fault u s ≡ None
   pub built : List Particle
   pub state : state u s ≡ Some (record { bodies = bodies; built = built })

@@ -1,4 +1,5 @@
-ghost use Rattle.std.specs.Prelude.{◌≡◌, ◌++◌, ◌∷◌, [], ℤ, pos, None, Some, OnOk, IfOk, IfErr, map, drop, take, slice_index_or, option_map};
+ghost use Rattle.std.specs.Prelude.{◌≡◌, ◌++◌, ◌∷◌, [], ℤ, pos, None, Some, OnOk, IfOk, IfErr, map, drop, take};
+ghost use Rattle.std.specs.Prelude.{slice_index_or, option_map};
 ghost use Rattle.run_model.specs.declared.fault.What.TheVariants.{Escaped};
 ghost use Rattle.run_model.specs.Force.{first_given};
 ghost use Rattle.run_model.specs.Leapfrog.{along_axes, after_drift, escape_axis};
