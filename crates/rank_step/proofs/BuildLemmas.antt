@@ -1,10 +1,12 @@
 -- The lists that a gather of all particles ends with.
-use Rattle.std.proofs.Common.{◌≡◌, ℕ, ◌+◌, ◌^◌, ◌<◌, ◌≤◌, List, [], ◌∷◌, ◌++◌, length, get_or, map, take, drop, Some, None, refl, sym, ◌∙◌, ap, subst, arith}
-use Rattle.std.specs.List.{All, Contains, flat_map, range_with_len, sum_by}
+use Rattle.std.proofs.Common.{◌≡◌, ℕ, ◌+◌, ◌^◌, ◌<◌, ◌≤◌, List, [], ◌∷◌, ◌++◌, length, get_or, map, take, drop, Some, None, inl, inr, nat_eq, refl, sym, ◌∙◌, ap, subst, arith}
+use Rattle.std.specs.List.{All, Contains, flat_map, sum_by}
 use Rattle.std.specs.List.Sorted.{IsPermutation, IsStrictlyIncreasing}
 use Rattle.std.proofs.Math.Seq.{drop-length}
-use Rattle.std.proofs.lemmas.Bool.{cond_below, cond_above}
-use Rattle.std.proofs.lemmas.List.{length-map, get_or-map, drop-drop, take-append-drop}
+use Rattle.std.proofs.lemmas.Bool.{cases_eq, cond_below, cond_above}
+use Rattle.std.proofs.lemmas.List.FromFn.{get_or-map-range_with_len, length-map-range_with_len}
+use Rattle.std.proofs.lemmas.List.Sums.{count_by-le-length, length-filter}
+use Rattle.std.proofs.lemmas.List.{get_or_append_left, get_or_at, length-map, get_or-map, drop-drop, take-append-drop}
 use Rattle.std.proofs.lemmas.List.Concat.{length-flat_map}
 use Rattle.std.proofs.lemmas.List.Elements.{All-contains, All-contains_itself, All-filter, Contains-get_or}
 use Rattle.std.proofs.lemmas.List.Folds.{flat_map-map}
@@ -15,12 +17,12 @@ use Rattle.pf_model.specs.declared.entry.Entry.{Entry}
 use Rattle.pf_model.specs.Criterion.{Criterion}
 use Rattle.pf_model.specs.Division.{Division, IsDivision, rank_count}
 use Rattle.pf_model.specs.DomainLaws.{AllRanksHaveAll, LoneRanksHaveAll}
-use Rattle.pf_model.specs.Domains.{particles_of}
+use Rattle.pf_model.specs.Domains.{owner, particles_of}
 use Rattle.pf_model.specs.Group.{particles_in, group_cell, group_of, group_cells, box_of}
 use Rattle.pf_model.specs.GroupLaws.{GroupsIgnoreOrder, BoxesIgnoreOrder}
 use Rattle.pf_model.specs.Interaction.{is_cell, list_of}
 use Rattle.pf_model.specs.Particle.{Particle}
-use Rattle.pf_model.specs.Particles.{HaveDistinctIds, by_id}
+use Rattle.pf_model.specs.Particles.{AreBodies, HaveDistinctIds, by_id}
 use Rattle.morton_tree.specs.declared.group.Group.{Group}
 use Rattle.morton_tree.specs.declared.span.Span.{Span}
 use Rattle.morton_tree.specs.Spans.{at_span, FollowOneAnother}
@@ -33,21 +35,53 @@ use Rattle.run_model.specs.Run as stop
 use Rattle.run_model.specs.RunLaws.{lone_lists, IsLoneBuild, LoneRanksBuildSo}
 use Rattle.run_model.specs.Text.{cells_in, particles_within, rank_counts}
 use Rattle.exchange.specs.States.{Holding}
-use Rattle.rank_step.specs.Build.{BuildsBy, AreListsOf, AreGroupsOf, IsGatherOfAll, all_entries, counts_of}
+use Rattle.rank_step.specs.Build.{BuildsBy, AreListsOf, AreGroupsOf, IsGatherOf, AreGathers, IsGatherOfAll, all_entries, counts_of}
 use Rattle.rank_step.specs.Ranks.{with_owners}
-use Rattle.rank_step.proofs.OrderLemmas.{ascend, by_id-ascending}
+use Rattle.rank_step.proofs.OrderLemmas.{ascend, by_id-ascending, distinct-ascending}
+use Rattle.rank_step.proofs.DealLemmas.{kept_ascend}
 
--- ---- the one rank
+-- ---- the ranks at a build
 
 abbrev holding : ℕ → List Particle → Holding
 holding rank owned = record { rank = rank; bodies = owned }
 
--- where there is one rank, it has all particles at a build
-pub lone_owner : LoneRanksHaveAll → (g : Division) (js : List Particle) → IsDivision g → g ≡ record { nx = 1; ny = 1; nz = 1 } → IsStrictlyIncreasing (map (λ p. p.id) js) → with_owners g js ≡ record { rank = 0; bodies = js } ∷ []
-lone_owner law g js division one up =
-    let alone : particles_of g js 0 ≡ js = (law g js division (ap rank_count one)).1 in
-    let by : by_id (particles_of g js 0) ≡ js = ap by_id alone ∙ by_id-ascending js (ascend js up) in
-    ap (λ n. map (λ rank. holding rank (by_id (particles_of g js rank))) (range_with_len 0 n)) (ap rank_count one) ∙ ap (λ l. holding 0 l ∷ []) by
+-- the rank at a place has what it owns
+pub owner_at : (g : Division) (js : List Particle) (k : ℕ) (d : Holding) → k < rank_count g → get_or (with_owners g js) k d ≡ record { rank = k; bodies = by_id (particles_of g js k) }
+owner_at g js k d within = get_or-map-range_with_len (λ rank. holding rank (by_id (particles_of g js rank))) 0 (rank_count g) k k d within (omega arith)
+
+pub owners_count : (g : Division) (js : List Particle) → length (with_owners g js) ≡ rank_count g
+owners_count g js = length-map-range_with_len (λ rank. holding rank (by_id (particles_of g js rank))) 0 (rank_count g)
+
+-- particles by ascending id that a rank owns are bodies, in that order
+module _ (g : Division) (js : List Particle) (bodies : AreBodies js) (up : IsStrictlyIncreasing (map (λ p. p.id) js)) (rank : ℕ) where
+  pub owned_in_order : by_id (particles_of g js rank) ≡ particles_of g js rank
+  owned_in_order = by_id-ascending (particles_of g js rank) (kept_ascend (λ j. nat_eq (owner g js j.at) rank) js (ascend js up))
+
+  pub owned_bodies : AreBodies (by_id (particles_of g js rank))
+  owned_bodies =
+      let test = λ (j : Particle). nat_eq (owner g js j.at) rank in
+      let long = length-filter test js in
+      let most = count_by-le-length test js in
+      let few = bodies.few in
+      subst AreBodies (sym owned_in_order) (record { few = omega arith; distinct = distinct-ascending (particles_of g js rank) (kept_ascend test js (ascend js up)) })
+
+-- one gather more
+pub gathers_more : (P : ℕ → Gathering → Type 0) (xs : List Gathering) (n : ℕ) (x : Gathering) → length xs ≡ n → ((k : ℕ) (d : Gathering) → k < n → P k (get_or xs k d)) → P n x → (k : ℕ) (d : Gathering) → k < n + 1 → P k (get_or (xs ++ x ∷ []) k d)
+gathers_more P xs n x long before this k d within =
+    elim (cases_eq k n) [
+      | inl same ↦ subst (λ (m : ℕ). P m (get_or (xs ++ x ∷ []) m d)) (sym same) (subst (P n) (sym (get_or_at xs x [] d n long)) this)
+      | inr other ↦ subst (P k) (sym (get_or_append_left xs (x ∷ []) d k (omega arith))) (before k d (omega arith))
+    ]
+
+-- ---- the one rank
+
+-- where there is one rank, its gather is of all particles
+pub gather_of_all : LoneRanksHaveAll → (limit : ℕ) (g : Division) (js : List Particle) (gather : Gathering) → IsDivision g → g ≡ record { nx = 1; ny = 1; nz = 1 } → AreBodies js → IsStrictlyIncreasing (map (λ p. p.id) js) →
+    AreGathers limit g js (gather ∷ []) → IsGatherOfAll limit js gather
+gather_of_all law limit g js gather division one bodies up are =
+    let count : rank_count g ≡ 1 = ap rank_count one in
+    let alone : particles_of g js 0 ≡ js = (law g js division count).1 in
+    subst (λ (own : List Particle). IsGatherOf 0 limit own gather) (owned_in_order g js bodies up 0 ∙ alone) (are.each 0 gather (omega arith))
 
 -- ---- the particles of the groups
 

@@ -1,8 +1,11 @@
 -- The build of a step: what it follows, and what it gives.
-use Rattle.std.specs.Prelude.{◌≡◌, ℕ, List, length, map, flat_map, All, Some, IsPermutation}
+use Rattle.std.specs.Prelude.{◌≡◌, ◌<◌, ℕ, List, length, map, flat_map, All, Some, IsPermutation, slice_index_or}
 use Rattle.pf_model.specs.declared.entry.Entry.{Entry}
 use Rattle.pf_model.specs.Criterion.{Criterion}
+use Rattle.pf_model.specs.Division.{Division, rank_count}
+use Rattle.pf_model.specs.Domains.{particles_of}
 use Rattle.pf_model.specs.Particle.{Particle}
+use Rattle.pf_model.specs.Particles.{by_id}
 use Rattle.morton_tree.specs.declared.group.Group.{Group}
 use Rattle.morton_tree.specs.Spans.{FollowOneAnother}
 use Rattle.morton_tree.specs.Groups.{groups_of, IsGroup}
@@ -60,6 +63,12 @@ pub record AreGroupsOf (limit : ℕ) (js own : List Particle) (groups : List Gro
 pub record IsGatherOf (rank limit : ℕ) (js : List Particle) (gather : Gathering) : Type 0 where
   pub value : gather ≡ own_gathering rank gather.own gather.groups
   pub groups : AreGroupsOf limit js gather.own gather.groups
+
+-- the gathers of all ranks at a build, by number, each of the particles that its rank owns
+pub record AreGathers (limit : ℕ) (g : Division) (js : List Particle) (gathers : List Gathering) : Type 0 where
+  pub counted : length gathers ≡ rank_count g
+  pub each : (rank : ℕ) (d : Gathering) → rank < rank_count g
+      → IsGatherOf rank limit (by_id (particles_of g js rank)) (slice_index_or gathers rank d)
 
 -- the gather of a rank that has all particles
 abbrev pub IsGatherOfAll : ℕ → List Particle → Gathering → Type 0

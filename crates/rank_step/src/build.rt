@@ -1,4 +1,4 @@
-ghost use Rattle.std.specs.Prelude.{◌≡◌, ◌<◌, ◌≤◌, None, OnOk, IfOk, IfErr, IsPermutation, length, map};
+ghost use Rattle.std.specs.Prelude.{◌≡◌, ◌<◌, ◌≤◌, [], ◌∷◌, None, OnOk, IfOk, IfErr, IsPermutation, length, map};
 ghost use Rattle.std.specs.List.Sorted.{IsStrictlyIncreasing};
 ghost use Rattle.pf_model.specs.Division.{rank_count};
 ghost use Rattle.pf_model.specs.Domains.{particles_of};
@@ -6,7 +6,7 @@ ghost use Rattle.pf_model.specs.Particles.{AreBodies};
 ghost use Rattle.run_model.specs.Setup.{Setup};
 ghost use Rattle.run_model.specs.Run.{lists_fault};
 ghost use Rattle.run_model.specs.Text.{rank_counts};
-ghost use Rattle.rank_step.specs.Build.{BuildsBy, AreListsOf, IsTooMany, IsGatherOf, IsGatherOfAll};
+ghost use Rattle.rank_step.specs.Build.{BuildsBy, AreListsOf, IsTooMany, IsGatherOf, IsGatherOfAll, AreGathers};
 ghost use Rattle.rank_step.specs.Ranks.{with_owners};
 
 use crate::counts::counts_of;
@@ -85,8 +85,43 @@ fn build_by<R: Threads + Sync, T: Terms, L: Ledger>(
 {
     lone_ranks_have_all();
     let particles = build.bodies.len() as u32;
-    let gather = gather_own::<R, T, L>(rt, alloc, &ranks[0], 1, build.theta, limit, blank)?;
-    finish(alloc, particles, limit, gather)
+    let gathers = gather_all::<R, T, L>(rt, alloc, ranks, build.theta, limit, blank)?;
+    finish(alloc, particles, limit, lone_gather(gathers))
+}
+
+// The gathers of all ranks, by number, each of the rank's own bodies.
+fn gather_all<R: Threads + Sync, T: Terms, L: Ledger>(
+    rt: &R,
+    alloc: Global,
+    ranks: &[RankState],
+    theta: Theta,
+    limit: u32,
+    blank: Blank,
+) -> Result<Vec<Gather<T>>, OutOfMemory>
+    requires ascending { IsStrictlyIncreasing (map (λ p. p.id) T.particles) }
+    requires owners { ranks.now ≡ with_owners T.grid T.particles }
+    requires theta { T.theta ≡ theta }
+    requires some { 1 ≤ limit }
+    requires most { limit ≤ MOST_GROUP }
+    requires name { blank.name ≡ L.name }
+    requires parts { blank.parts ≡ L.parts }
+    requires share { 0 < L.parts }
+    ensures { IfOk result (λ gathers. AreGathers limit T.grid T.particles gathers.items) }
+{
+    let mut steps = Steps::<L>::new(blank);
+    let mut gathers = Vec::with_capacity(alloc, ranks.len())?;
+    for state in ranks {
+        gathers.push(gather_own::<R, T, L>(
+            rt,
+            alloc,
+            state,
+            ranks.len() as u32,
+            theta,
+            limit,
+            &mut steps,
+        )?)?;
+    }
+    Ok(gathers)
 }
 
 // The tree of a rank, its groups, and the gather of its own bodies.
@@ -97,7 +132,7 @@ fn gather_own<R: Threads + Sync, T: Terms, L: Ledger>(
     ranks: u32,
     theta: Theta,
     limit: u32,
-    blank: Blank,
+    steps: &mut Steps<L>,
 ) -> Result<Gather<T>, OutOfMemory>
     requires bodies { AreBodies state.now.bodies }
     requires own { IsPermutation state.now.bodies (particles_of T.grid T.particles state.now.rank) }
@@ -106,15 +141,22 @@ fn gather_own<R: Threads + Sync, T: Terms, L: Ledger>(
     requires theta { T.theta ≡ theta }
     requires some { 1 ≤ limit }
     requires most { limit ≤ MOST_GROUP }
-    requires name { blank.name ≡ L.name }
-    requires parts { blank.parts ≡ L.parts }
-    requires share { 0 < L.parts }
     ensures { IfOk result (IsGatherOf state.now.rank limit state.now.bodies) }
 {
     let tree = Tree::build(rt, alloc, state.bodies.to_vec(alloc)?)?;
     let groups = tree.groups(alloc, limit)?;
-    let mut steps = Steps::new(blank);
-    Gather::<T>::open::<L>(alloc, state.rank, ranks, &tree, &groups, theta, &mut steps)
+    Gather::<T>::open::<L>(alloc, state.rank, ranks, &tree, &groups, theta, steps)
+}
+
+// The gather of the one rank.
+fn lone_gather<T: Terms>(mut gathers: Vec<Gather<T>>) -> Gather<T>
+    requires { length gathers.items ≡ 1 }
+    ensures { gathers.items ≡ result ∷ [] }
+{
+    match gathers.pop() {
+        Some(gather) => gather,
+        None => unreachable!(),
+    }
 }
 
 // The lists that were gathered of all particles, unless they have more entries than the limit.

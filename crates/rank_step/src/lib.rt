@@ -1,5 +1,6 @@
-// The steps of a run: a world of all particles, and the world after the next step. It stands on the lists of
-// group_lists, the forces of force_phase and the moves of leapfrog.
+// The steps of a run: a world of all particles and of the ranks that have them, and the world after the next
+// step. It stands on the ranks of exchange, the lists of group_lists, the forces of force_phase and the moves of
+// leapfrog.
 #![tactic(auto)]
 
 mod build;
