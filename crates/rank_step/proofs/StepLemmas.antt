@@ -297,9 +297,6 @@ sound_of inside w view h = subst (λ (v : Standing). IsSound v.grid v.group v.bo
 abbrev pub ids_of : Standing → List ℕ
 ids_of w = map (λ b. b.body.id) w.bodies
 
-pub due_within : (inside w : Standing) (due : ℕ) → inside ≡ w → w.due ≡ due → inside.due ≡ due
-due_within inside w due view e = ap (λ (v : Standing). v.due) view ∙ e
-
 pub takes_within : (inside w : Standing) (u : Setup) → inside ≡ w → TakesBy w.kernel w.theta w.group u → TakesBy inside.kernel inside.theta inside.group u
 takes_within inside w u view h = subst (λ (v : Standing). TakesBy v.kernel v.theta v.group u) (sym view) h
 

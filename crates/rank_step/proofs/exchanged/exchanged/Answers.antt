@@ -70,6 +70,6 @@ returns-clause-together c =
     let settled = arrives c.args.grid c.args.now.now c.in_ok-domains.domains.cuts c.deref_mut.result.now home c.args.states.len c.leave_all.new.states
     (drop (length c.leave_all.new.states) c.args.states.items) c.in_ok-inboxes.inboxes.items (omega arith) c.in_ok-inboxes.ensures.left c.in_ok-inboxes.ensures.came in
     let regions = subst AreRegions (c.domains.view_is ∙ c.in_ok-domains.ensures.value) c.domains.invariant in
-    let together = owners_together c.owners_are_ranks.ensures c.args.grid c.args.now.now regions.cuts c.requires.ascending in
+    let together = owners_together c.ranks_together_have_all.ensures c.args.grid c.args.now.now regions.cuts c.requires.bodies.distinct in
     IfOk-weaker c.settle_all.result (λ (after : Vec Holding Global). after.items ≡ map settled_with (zip (take c.args.states.len (c.leave_all.new.states ++ drop (length c.leave_all.new.states) c.args.states.items)) c.in_ok-inboxes.inboxes.items))
     (λ (after : Vec Holding Global). HaveTogether c.args.grid c.args.now.now after.items) (λ after is. subst (HaveTogether c.args.grid c.args.now.now) (sym (is ∙ settled.owners)) together) c.settle_all.ensures
