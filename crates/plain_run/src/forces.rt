@@ -1,6 +1,6 @@
-ghost use Rattle.std.specs.Prelude.{◌≡◌, ◌++◌, ◌<◌, ◌^◌, All, ℤ, pos, IfOk, OnOk, IfErr, Ok};
-ghost use Rattle.std.specs.Prelude.{Err, None, Some, List, [], IsTrue, true, flat_map, length, map, slice_get};
-ghost use Rattle.std.specs.List.{enumerate_from, filter_map, list_all, zip};
+ghost use Rattle.std.specs.Prelude.{◌≡◌, ◌++◌, ◌<◌, ◌^◌, All, IfOk, OnOk, IfErr, Ok};
+ghost use Rattle.std.specs.Prelude.{Err, None, Some, IsTrue, true, flat_map, length, map, slice_get};
+ghost use Rattle.std.specs.List.{filter_map, list_all, zip};
 ghost use Rattle.pf_num.specs.Exact.{is_i64};
 ghost use Rattle.pf_model.specs.Interaction.{entry_source};
 ghost use Rattle.kern_types.specs.Declarations.{forces_of};

@@ -1,4 +1,4 @@
-ghost use Rattle.std.specs.Prelude.{◌≡◌, ◌≤◌, IfOk, length};
+ghost use Rattle.std.specs.Prelude.{◌≡◌, IfOk, length};
 ghost use Rattle.pf_geom.specs.Octant.{cell_at};
 ghost use Rattle.pf_model.specs.Group.{particles_in, group_cell, group_cells, box_of};
 ghost use Rattle.pf_model.specs.Interaction.{is_cell};

@@ -1,8 +1,8 @@
-ghost use Rattle.std.specs.Prelude.{◌≡◌, ◌≤◌, ◌∷◌, [], All, IfOk, find, filter, length, map, nat_eq, unwrap_or};
+ghost use Rattle.std.specs.Prelude.{◌≡◌, ◌≤◌, All, IfOk, find, filter, length, nat_eq, unwrap_or};
 ghost use Rattle.std.specs.List.{list_any};
 ghost use Rattle.pf_model.specs.declared.limits.TheConstants.{MOST_PARTICLES};
 ghost use Rattle.pf_model.specs.Particles.{AreBodies};
-ghost use Rattle.pf_model.specs.Interaction.{leads_to_cell, entry_of, list_of, members_of};
+ghost use Rattle.pf_model.specs.Interaction.{leads_to_cell, members_of};
 ghost use Rattle.pf_model.specs.Reuse as rules;
 ghost use Rattle.pf_model.specs.Sums.{moment_of};
 ghost use Rattle.plain_run.specs.Lists.{HasMembers, HaveOneOrder, is_of_cell};

@@ -24,6 +24,6 @@ mod targets;
 pub use domains::{slow_domain_box, slow_owner};
 pub use essential::slow_essential;
 pub use forces::{ForceStop, slow_forces};
-pub use run::slow_text;
+pub use run::{slow_step, slow_text};
 pub use setup::RunSetup;
 pub use stop::SlowStop;

@@ -1,4 +1,4 @@
-ghost use Rattle.std.specs.Prelude.{◌≡◌, ◌*◌, ◌≤◌, ◌^◌, ◌<◌, All, IfOk, [], if◌then◌else◌, flat_map, length, nat_eq};
+ghost use Rattle.std.specs.Prelude.{◌≡◌, ◌*◌, ◌^◌, ◌<◌, All, IfOk, [], if◌then◌else◌, flat_map, length, nat_eq};
 ghost use Rattle.std.specs.List.{range_with_len};
 ghost use Rattle.pf_model.specs.Particles.{AreBodies};
 ghost use Rattle.pf_model.specs.Division.{IsDivision, rank_count};

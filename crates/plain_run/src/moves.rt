@@ -1,4 +1,4 @@
-ghost use Rattle.std.specs.Prelude.{◌≡◌, ◌++◌, ◌∷◌, [], ℤ, pos, None, Some};
+ghost use Rattle.std.specs.Prelude.{◌≡◌, ◌++◌, ◌∷◌, [], pos, None, Some};
 ghost use Rattle.std.specs.Prelude.{OnOk, IfOk, IfErr, map, drop, take, slice_index_or, option_map};
 ghost use Rattle.run_model.specs.declared.fault.What.TheVariants.{Escaped};
 ghost use Rattle.run_model.specs.Force.{first_given};

@@ -1,6 +1,6 @@
-ghost use Rattle.std.specs.Prelude.{◌≡◌, ◌≤◌, ◌-◌, IfOk, IfErr, OnOk, None, map};
+ghost use Rattle.std.specs.Prelude.{◌≡◌, ◌≤◌, ◌-◌, IfOk, IfErr, OnOk, None, map, option_map};
 ghost use Rattle.pf_model.specs.Particles.{AreBodies};
-ghost use Rattle.run_model.specs.Run.{first_fault};
+ghost use Rattle.run_model.specs.Run.{state, first_fault};
 ghost use Rattle.run_model.specs.Text as rules;
 ghost use Rattle.plain_run.specs.Reaching.{IsReached};
 ghost use Rattle.plain_run.specs.Runs.{StopsAt, body_line_of};
@@ -31,19 +31,33 @@ pub(crate) enum Reached {
     Past,
 }
 
-/// The text of a step, by the definition: every step up to it is carried out. The text of a step that has no state,
-/// because an earlier one had a fault, is empty. `Numeric` and `Lists` exactly where that is the first fault of this
-/// very step. It serves tests.
+/// The text of a step, by the definition. The text of a step that has no state, because an earlier one had a fault,
+/// is empty. `Numeric` and `Lists` exactly where that is the first fault of this very step. It serves tests.
 pub fn slow_text(alloc: Global, run: &RunSetup, step: u32) -> Result<Vec<u8>, SlowStop>
     ensures text { IfOk result (λ text. text.items ≡ rules.text run.now step) }
     ensures no_fault { OnOk result (first_fault run.now step ≡ None) }
     ensures fault { IfErr result (StopsAt (first_fault run.now step)) }
 {
+    match slow_step(alloc, run, step) {
+        Ok(Some(told)) => Ok(write_step(alloc, &told)?),
+        Ok(None) => Ok(Vec::new(alloc)),
+        Err(stop) => Err(stop),
+    }
+}
+
+/// What the text of a step tells, by the definition: every step up to it is carried out. `None` exactly where an
+/// earlier step had a fault. `Numeric` and `Lists` exactly where that is the first fault of this very step. It serves
+/// tests.
+pub fn slow_step(alloc: Global, run: &RunSetup, step: u32) -> Result<Option<StepText>, SlowStop>
+    ensures told { IfOk result (λ answer. answer ≡ option_map (rules.told run.now step) (state run.now step)) }
+    ensures no_fault { OnOk result (first_fault run.now step ≡ None) }
+    ensures fault { IfErr result (StopsAt (first_fault run.now step)) }
+{
     match reach(alloc, run, step)? {
-        Reached::At(now) => Ok(write_step(alloc, &told(alloc, run, step, &now)?)?),
+        Reached::At(now) => Ok(Some(told(alloc, run, step, &now)?)),
         Reached::Numeric(fault) => Err(SlowStop::Numeric(fault)),
         Reached::Lists(count) => Err(SlowStop::Lists(count)),
-        Reached::Past => Ok(Vec::new(alloc)),
+        Reached::Past => Ok(None),
     }
 }
 

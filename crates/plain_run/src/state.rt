@@ -4,7 +4,8 @@ ghost use Rattle.pf_model.specs.Groups.{all_groups, group_list};
 ghost use Rattle.run_model.specs.Force.{first_given};
 ghost use Rattle.run_model.specs.Run as rules;
 ghost use Rattle.plain_run.specs.Lists.{HaveOneOrder};
-ghost use Rattle.plain_run.specs.Runs.{StopsAt, build_fault, forces_and_kick_fault, later_fault, state_taken, forced_by};
+ghost use Rattle.plain_run.specs.Runs.{StopsAt, build_fault, forces_and_kick_fault, later_fault};
+ghost use Rattle.plain_run.specs.Runs.{state_taken, forced_by};
 
 use crate::forced::Forced;
 use crate::forces::{ForceStop, slow_forces};

@@ -1,4 +1,4 @@
-ghost use Rattle.std.specs.Prelude.{◌≡◌, ◌≤◌, IfOk, length};
+ghost use Rattle.std.specs.Prelude.{◌≤◌, IfOk, length};
 ghost use Rattle.pf_model.specs.Particles.{AreBodies};
 ghost use Rattle.deck_file.specs.Laws.{IsWithinLimits};
 

@@ -123,7 +123,29 @@ p 1 0 0 0 0 0 0 0 0 0 0 1048579 0 0
 p 2 0 1048576 0 0 0 0 0 0 0 0 -1048571 0 0
 p 3 0 1048581 0 0 0 0 0 0 0 0 -1048586 0 0
 ";
-    says(&rt, alloc, &one_rank, 0, text)
+    says(&rt, alloc, &one_rank, 0, text)?;
+    let eight_ranks = run_of(
+        &rt,
+        alloc,
+        "kernel k\nparticles p\nout o\ngrid 2x2x2\ntheta 1/1\ngroup 1\n",
+        PULL,
+        THREE,
+    )?;
+    let text = "\
+step 0 particles 3 ranks 8
+rank 0 particles 0 groups 0 cells 0 parts 0 listcells 0 listparts 0
+rank 1 particles 0 groups 0 cells 0 parts 0 listcells 0 listparts 0
+rank 2 particles 0 groups 0 cells 0 parts 0 listcells 0 listparts 0
+rank 3 particles 1 groups 1 cells 2 parts 0 listcells 1 listparts 1
+rank 4 particles 0 groups 0 cells 0 parts 0 listcells 0 listparts 0
+rank 5 particles 0 groups 0 cells 0 parts 0 listcells 0 listparts 0
+rank 6 particles 0 groups 0 cells 0 parts 0 listcells 0 listparts 0
+rank 7 particles 2 groups 2 cells 1 parts 0 listcells 4 listparts 2
+p 1 3 0 0 0 0 0 0 0 0 0 1048579 0 0
+p 2 7 1048576 0 0 0 0 0 0 0 0 -1048571 0 0
+p 3 7 1048581 0 0 0 0 0 0 0 0 -1048586 0 0
+";
+    says(&rt, alloc, &eight_ranks, 0, text)
 }
 
 #[test]
@@ -171,6 +193,21 @@ p 1 0 0 0 0 48000 64000 0 24000 32000 0
 p 2 0 3 4 0 -48000 -64000 0 -24000 -32000 0
 ";
     says(&rt, alloc, &kicked, 1, text)?;
+    let corners = run_of(
+        &rt,
+        alloc,
+        "kernel k\nparticles p\nout o\n",
+        GRAVITY_AND_TOP,
+        "particles 1\ncount 2\n1 0 0 0 0 0 0 1 0 0 0 0\n\
+2 1073741823 1073741823 1073741823 0 0 0 1 0 0 0 0\n",
+    )?;
+    let text = "\
+step 0 particles 2 ranks 1
+rank 0 particles 2 groups 1 cells 0 parts 0 listcells 0 listparts 2
+p 1 0 0 0 0 0 0 0 0 0 0 3458764507378089987
+p 2 0 1073741823 1073741823 1073741823 0 0 0 0 0 0 3458764507378089987
+";
+    says(&rt, alloc, &corners, 0, text)?;
     let across = run_of(
         &rt,
         alloc,
@@ -227,6 +264,14 @@ fn the_first_fault_is_that_of_the_least_id(rt: HostRuntime) -> Result<(), Fail> 
     )?;
     faults(&rt, alloc, &escaping, 1, 1, What::Escaped(Axis::X))?;
     says(&rt, alloc, &escaping, 2, "")?;
+    let too_fast = run_of(
+        &rt,
+        alloc,
+        "kernel k\nparticles p\nout o\ntheta 0/1\nsteps 1\ndt 2\n",
+        GRAVITY,
+        "particles 1\ncount 2\n1 0 0 0 140737488355328 0 0 1 0 0 0 0\n2 3 4 0 0 0 0 1 0 0 0 0\n",
+    )?;
+    faults(&rt, alloc, &too_fast, 1, 1, What::Fast(Axis::X))?;
     let too_far = run_of(
         &rt,
         alloc,
