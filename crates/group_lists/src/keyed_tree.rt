@@ -52,7 +52,7 @@ impl<T: Terms> KeyedTree<T> {
         lists_merge();
         some_have_distinct_ids();
         let mut items = tree.items;
-        items.sort_unstable_by_key(|item| item_key(item));
+        items.sort_by_cached_key(|item| item_key(item))?;
         let keys = keys_of(alloc, &items)?;
         let sums = sums_of(alloc, &items)?;
         Ok(KeyedTree {
