@@ -1,2 +1,3 @@
+mod absorbing;
 mod bodies;
 mod sent;

@@ -24,10 +24,15 @@ struct Sending {
     sent: Sent,
 }
 
-fn goes_between_threads<T: Send + Sync>(_value: &T) {}
+pub fn goes_between_threads<T: Send + Sync>(_value: &T) {}
 
 // The bodies that a rank owns.
-fn owned(alloc: Global, bodies: &[Body], d: &Domains, rank: u32) -> Result<Vec<Body>, OutOfMemory>
+pub fn owned(
+    alloc: Global,
+    bodies: &[Body],
+    d: &Domains,
+    rank: u32,
+) -> Result<Vec<Body>, OutOfMemory>
     ensures { IfOk result (λ own. own.items
         ≡ filter (λ j. nat_eq (owner_by d.now.cuts j.at) rank) bodies.now) }
 {
@@ -90,14 +95,15 @@ fn sent(
 }
 
 // So many slabs along x.
-fn slabs(nx: u32) -> Grid
+pub fn slabs(nx: u32) -> Grid
     requires some { 1 ≤ nx }
     requires few { nx ≤ 64 }
+    ensures { result ≡ record { nx = nx; ny = 1; nz = 1 } }
 {
     Grid { nx, ny: 1, nz: 1 }
 }
 
-fn angle(a: u32, b: u32) -> Theta
+pub fn angle(a: u32, b: u32) -> Theta
     requires a { a ≤ 1024 }
     requires some { 1 ≤ b }
     requires b { b ≤ 1024 }
@@ -110,7 +116,14 @@ fn angle(a: u32, b: u32) -> Theta
 }
 
 // Whether an entry is this cell with a moment of this count, mass and weighted sum along x.
-fn is_cell(entry: &Entry, level: u32, key: u128, count: u32, mass: u64, weighted: u128) -> bool {
+pub fn is_cell(
+    entry: &Entry,
+    level: u32,
+    key: u128,
+    count: u32,
+    mass: u64,
+    weighted: u128,
+) -> bool {
     match entry {
         Entry::Cell(cell, moment) => {
             let sums = (moment.count, moment.mass, moment.weighted[0]);
@@ -120,7 +133,7 @@ fn is_cell(entry: &Entry, level: u32, key: u128, count: u32, mass: u64, weighted
     }
 }
 
-fn is_body(entry: &Entry, id: u32) -> bool {
+pub fn is_body(entry: &Entry, id: u32) -> bool {
     match entry {
         Entry::Cell(..) => false,
         Entry::One(body) => body.id == id,
