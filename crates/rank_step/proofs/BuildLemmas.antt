@@ -1,28 +1,31 @@
--- The lists that a gather of all particles ends with.
-use Rattle.std.proofs.Common.{◌≡◌, ℕ, ◌+◌, ◌^◌, ◌<◌, ◌≤◌, List, [], ◌∷◌, ◌++◌, length, get_or, map, take, drop, Some, None, inl, inr, nat_eq, refl, sym, ◌∙◌, ap, subst, arith}
-use Rattle.std.specs.List.{All, Contains, flat_map, sum_by}
+-- The lists that the gathers of all ranks end with.
+use Rattle.std.proofs.Common.{◌≡◌, ℕ, zero, suc, ◌+◌, ◌^◌, ◌<◌, ◌≤◌, Bool, true, not, List, [], ◌∷◌, ◌++◌, length, get_or, map, take, drop, nat_eq, Some, None, inl, inr, refl, sym, ◌∙◌, ap, subst, arith}
+use Rattle.std.specs.Prelude.{if◌then◌else◌}
+use Rattle.std.specs.List.{All, Contains, filter, flat_map, range_with_len, sum_by}
 use Rattle.std.specs.List.Sorted.{IsPermutation, IsStrictlyIncreasing}
 use Rattle.std.proofs.Math.Seq.{drop-length}
-use Rattle.std.proofs.lemmas.Bool.{cases_eq, cond_below, cond_above}
-use Rattle.std.proofs.lemmas.List.FromFn.{get_or-map-range_with_len, length-map-range_with_len}
-use Rattle.std.proofs.lemmas.List.Sums.{count_by-le-length, length-filter}
-use Rattle.std.proofs.lemmas.List.{get_or_append_left, get_or_at, length-map, get_or-map, drop-drop, take-append-drop}
-use Rattle.std.proofs.lemmas.List.Concat.{length-flat_map}
-use Rattle.std.proofs.lemmas.List.Elements.{All-contains, All-contains_itself, All-filter, Contains-get_or}
+use Rattle.std.proofs.lemmas.Bool.{cases_eq, cond_below, cond_above, cond_both, eq-eqb, eqb-true, ne_eqb}
+use Rattle.std.proofs.lemmas.List.{length-map, get_or-map, drop-drop, take-append-drop}
+use Rattle.std.proofs.lemmas.List.Concat.{flat_map-append, length-flat_map}
+use Rattle.std.proofs.lemmas.List.Elements.{All-append, All-contains, All-contains_itself, All-filter, Contains-get_or}
 use Rattle.std.proofs.lemmas.List.Folds.{flat_map-map}
-use Rattle.std.proofs.lemmas.List.Sorted.{Contains-permutation, IsPermutation-sym}
+use Rattle.std.proofs.lemmas.List.Sorted.{Contains-permutation, IsPermutation-append, IsPermutation-refl, IsPermutation-sym, IsPermutation-trans, length_permutation}
+use Rattle.std.proofs.lemmas.List.Sums.{sum_by-append, sum_by-cons}
 use Rattle.pf_geom.specs.Bounds.{Bounds}
 use Rattle.pf_geom.specs.Octant.{Octant, cell_at}
 use Rattle.pf_model.specs.declared.entry.Entry.{Entry}
 use Rattle.pf_model.specs.Criterion.{Criterion}
 use Rattle.pf_model.specs.Division.{Division, IsDivision, rank_count}
-use Rattle.pf_model.specs.DomainLaws.{AllRanksHaveAll, LoneRanksHaveAll}
 use Rattle.pf_model.specs.Domains.{owner, particles_of}
+use Rattle.pf_model.specs.DomainLaws.{AllRanksHaveAll, OwnersAreRanks}
+use Rattle.pf_model.specs.EssentialTree.{essential_tree}
 use Rattle.pf_model.specs.Group.{particles_in, group_cell, group_of, group_cells, box_of}
 use Rattle.pf_model.specs.GroupLaws.{GroupsIgnoreOrder, BoxesIgnoreOrder}
+use Rattle.pf_model.specs.Groups.{RankGroup, groups_of_rank, all_groups, group_list}
 use Rattle.pf_model.specs.Interaction.{is_cell, list_of}
 use Rattle.pf_model.specs.Particle.{Particle}
-use Rattle.pf_model.specs.Particles.{AreBodies, HaveDistinctIds, by_id}
+use Rattle.pf_model.specs.Reuse.{kept_list}
+use Rattle.pf_model.specs.ReuseLaws.{KeptListsBeginAsLists}
 use Rattle.morton_tree.specs.declared.group.Group.{Group}
 use Rattle.morton_tree.specs.declared.span.Span.{Span}
 use Rattle.morton_tree.specs.Spans.{at_span, FollowOneAnother}
@@ -30,58 +33,18 @@ use Rattle.morton_tree.specs.Groups.{group_in, IsGroup}
 use Rattle.group_lists.specs.Gathering.{Gathering, IsWhole, gathered_count}
 use Rattle.group_lists.specs.Whole.{GroupList}
 use Rattle.run_model.specs.Setup.{Setup}
-use Rattle.run_model.specs.Run.{list_for, entry_count, lists_fault}
+use Rattle.run_model.specs.Run.{as_built, list_for, entry_count, lists_fault}
 use Rattle.run_model.specs.Run as stop
-use Rattle.run_model.specs.RunLaws.{lone_lists, IsLoneBuild, LoneRanksBuildSo}
-use Rattle.run_model.specs.Text.{cells_in, particles_within, rank_counts}
-use Rattle.exchange.specs.States.{Holding}
-use Rattle.rank_step.specs.Build.{BuildsBy, AreListsOf, AreGroupsOf, IsGatherOf, AreGathers, IsGatherOfAll, all_entries, counts_of}
-use Rattle.rank_step.specs.Ranks.{with_owners}
-use Rattle.rank_step.proofs.OrderLemmas.{ascend, by_id-ascending, distinct-ascending}
-use Rattle.rank_step.proofs.DealLemmas.{kept_ascend}
-
--- ---- the ranks at a build
-
-abbrev holding : ℕ → List Particle → Holding
-holding rank owned = record { rank = rank; bodies = owned }
-
--- the rank at a place has what it owns
-pub owner_at : (g : Division) (js : List Particle) (k : ℕ) (d : Holding) → k < rank_count g → get_or (with_owners g js) k d ≡ record { rank = k; bodies = by_id (particles_of g js k) }
-owner_at g js k d within = get_or-map-range_with_len (λ rank. holding rank (by_id (particles_of g js rank))) 0 (rank_count g) k k d within (omega arith)
-
-pub owners_count : (g : Division) (js : List Particle) → length (with_owners g js) ≡ rank_count g
-owners_count g js = length-map-range_with_len (λ rank. holding rank (by_id (particles_of g js rank))) 0 (rank_count g)
-
--- particles by ascending id that a rank owns are bodies, in that order
-module _ (g : Division) (js : List Particle) (bodies : AreBodies js) (up : IsStrictlyIncreasing (map (λ p. p.id) js)) (rank : ℕ) where
-  pub owned_in_order : by_id (particles_of g js rank) ≡ particles_of g js rank
-  owned_in_order = by_id-ascending (particles_of g js rank) (kept_ascend (λ j. nat_eq (owner g js j.at) rank) js (ascend js up))
-
-  pub owned_bodies : AreBodies (by_id (particles_of g js rank))
-  owned_bodies =
-      let test = λ (j : Particle). nat_eq (owner g js j.at) rank in
-      let long = length-filter test js in
-      let most = count_by-le-length test js in
-      let few = bodies.few in
-      subst AreBodies (sym owned_in_order) (record { few = omega arith; distinct = distinct-ascending (particles_of g js rank) (kept_ascend test js (ascend js up)) })
-
--- one gather more
-pub gathers_more : (P : ℕ → Gathering → Type 0) (xs : List Gathering) (n : ℕ) (x : Gathering) → length xs ≡ n → ((k : ℕ) (d : Gathering) → k < n → P k (get_or xs k d)) → P n x → (k : ℕ) (d : Gathering) → k < n + 1 → P k (get_or (xs ++ x ∷ []) k d)
-gathers_more P xs n x long before this k d within =
-    elim (cases_eq k n) [
-      | inl same ↦ subst (λ (m : ℕ). P m (get_or (xs ++ x ∷ []) m d)) (sym same) (subst (P n) (sym (get_or_at xs x [] d n long)) this)
-      | inr other ↦ subst (P k) (sym (get_or_append_left xs (x ∷ []) d k (omega arith))) (before k d (omega arith))
-    ]
-
--- ---- the one rank
-
--- where there is one rank, its gather is of all particles
-pub gather_of_all : LoneRanksHaveAll → (limit : ℕ) (g : Division) (js : List Particle) (gather : Gathering) → IsDivision g → g ≡ record { nx = 1; ny = 1; nz = 1 } → AreBodies js → IsStrictlyIncreasing (map (λ p. p.id) js) →
-    AreGathers limit g js (gather ∷ []) → IsGatherOfAll limit js gather
-gather_of_all law limit g js gather division one bodies up are =
-    let count : rank_count g ≡ 1 = ap rank_count one in
-    let alone : particles_of g js 0 ≡ js = (law g js division count).1 in
-    subst (λ (own : List Particle). IsGatherOf 0 limit own gather) (owned_in_order g js bodies up 0 ∙ alone) (are.each 0 gather (omega arith))
+use Rattle.run_model.specs.Text.{cells_in, particles_within, lists_of, ranks, rank_counts}
+use Rattle.run_model.specs.Text as texts
+use Rattle.rank_step.specs.declared.rank_lists.RankLists.{RankLists}
+use Rattle.rank_step.specs.Build.{BuildsBy, AreListsOf, AreGroupsOf, all_entries}
+use Rattle.rank_step.specs.Ranks.{as_now}
+use Rattle.rank_step.specs.Trees.{received_by, HasGathered, HaveGathered, IsFinished, AreFinished}
+use Rattle.rank_step.proofs.DealLemmas.{dealt_out}
+use Rattle.rank_step.proofs.NowLemmas.{all_now}
+use Rattle.rank_step.proofs.OrderLemmas.{ascend, distinct-ascending}
+use Rattle.rank_step.proofs.TreeLemmas.{all_others}
 
 -- ---- the particles of the groups
 
@@ -98,14 +61,9 @@ joined_from_maps : {X Y Z : Type 0} (f : X → List Z) (g : Y → List Z) (xs : 
 joined_from_maps f g xs ys same =
     sym (flat_map-map (λ z. z) f xs) ∙ ap (flat_map (λ z. z)) same ∙ flat_map-map (λ z. z) g ys
 
--- the groups of a tree, with their lists over the particles js
-pub record AreFinished (t : Criterion) (js own : List Particle) (groups : List Group) (lists : List GroupList) : Type 0 where
-  pub bodies : map (λ l. l.bodies) lists ≡ map (λ g. at_span g.span own) groups
-  pub entries : map (λ l. l.entries) lists ≡ map (λ g. list_of t g.around js) groups
-
-bodies_are : (t : Criterion) (js own : List Particle) (groups : List Group) (lists : List GroupList) → FollowOneAnother 0 (length own) (map (λ g. g.span) groups) → AreFinished t js own groups lists → flat_map (λ l. l.bodies) lists ≡ own
-bodies_are t js own groups lists follow finished =
-    joined_from_maps (λ (l : GroupList). l.bodies) (λ (g : Group). at_span g.span own) lists groups finished.bodies
+bodies_are : (own : List Particle) (groups : List Group) (lists : List GroupList) → FollowOneAnother 0 (length own) (map (λ g. g.span) groups) → map (λ l. l.bodies) lists ≡ map (λ g. at_span g.span own) groups → flat_map (λ l. l.bodies) lists ≡ own
+bodies_are own groups lists follow bodies =
+    joined_from_maps (λ (l : GroupList). l.bodies) (λ (g : Group). at_span g.span own) lists groups bodies
     ∙ sym (flat_map-map (λ (s : Span). at_span s own) (λ (g : Group). g.span) groups)
     ∙ spans_have_all own 0 (map (λ (g : Group). g.span) groups) follow
 
@@ -116,24 +74,25 @@ pub record Laws : Type 0 where
   pub groups : GroupsIgnoreOrder
   pub boxes : BoxesIgnoreOrder
   pub ranks : AllRanksHaveAll
-  pub lone : LoneRanksBuildSo
+  pub owners : OwnersAreRanks
+  pub kept : KeptListsBeginAsLists
 
-box_of-same : Laws → (js own : List Particle) (c : Octant) → IsPermutation js own → box_of (particles_in c own) ≡ box_of (particles_in c js)
-box_of-same laws js own c same = sym (laws.boxes (particles_in c js) (particles_in c own) ((laws.groups 0 js own same).2 c))
+box_of-same : Laws → (some own : List Particle) (c : Octant) → IsPermutation some own → box_of (particles_in c own) ≡ box_of (particles_in c some)
+box_of-same laws some own c same = sym (laws.boxes (particles_in c some) (particles_in c own) ((laws.groups 0 some own same).2 c))
 
-group_box : Laws → (limit : ℕ) (js own : List Particle) (g : Group) (i : Particle) → IsPermutation js own → IsGroup limit own g → Contains (at_span g.span own) i → g.around ≡ box_of (group_of limit js i)
-group_box laws limit js own g i same group member =
-    group.around ∙ ap box_of (group.members i member) ∙ box_of-same laws js own (group_cell limit own i.at) same
-    ∙ ap (λ (c : Octant). box_of (particles_in c js)) (sym ((laws.groups limit js own same).0 i.at))
+group_box : Laws → (limit : ℕ) (some own : List Particle) (g : Group) (i : Particle) → IsPermutation some own → IsGroup limit own g → Contains (at_span g.span own) i → g.around ≡ box_of (group_of limit some i)
+group_box laws limit some own g i same group member =
+    group.around ∙ ap box_of (group.members i member) ∙ box_of-same laws some own (group_cell limit own i.at) same
+    ∙ ap (λ (c : Octant). box_of (particles_in c some)) (sym ((laws.groups limit some own same).0 i.at))
 
 -- a member of a group is one of the particles
-member_among : (limit : ℕ) (js own : List Particle) (g : Group) (i : Particle) → IsPermutation js own → IsGroup limit own g → Contains (at_span g.span own) i → Contains js i
-member_among limit js own g i same group member =
+member_among : (limit : ℕ) (some own : List Particle) (g : Group) (i : Particle) → IsPermutation some own → IsGroup limit own g → Contains (at_span g.span own) i → Contains some i
+member_among limit some own g i same group member =
     let c = group_cell limit own i.at in
     let grouped : Contains (group_of limit own i) i =
     subst (λ (l : List Particle). Contains l i) (group.members i member) member in
     let all = All-filter (λ (j : Particle). is_cell c (cell_at j.at c.level)) (Contains own) own (All-contains_itself own) in
-    Contains-permutation own js i (IsPermutation-sym js own same) (All-contains (Contains own) (group_of limit own i) i all grouped)
+    Contains-permutation own some i (IsPermutation-sym some own same) (All-contains (Contains own) (group_of limit own i) i all grouped)
 
 no_group : Group
 no_group = record {
@@ -142,92 +101,252 @@ no_group = record {
   around = box_of [];
 }
 
--- ---- the lists of the groups
+-- the lists round the boxes of the groups of some particles, joined
+lists_joined : Laws → (t : Criterion) (limit : ℕ) (js some own : List Particle) (groups : List Group) → AreGroupsOf limit some own groups → flat_map (λ g. list_of t g.around js) groups ≡ flat_map (λ c. list_of t (box_of (particles_in c some)) js) (group_cells limit some)
+lists_joined laws t limit js some own groups grouped =
+    let round : Octant → List Entry = λ c. list_of t (box_of (particles_in c own)) js in
+    let theirs : Octant → List Entry = λ c. list_of t (box_of (particles_in c some)) js in
+    let same : round ≡ theirs = λ k c. list_of t (box_of-same laws some own c grouped.same k) js in
+    ap (flat_map (λ (g : Group). list_of t g.around js)) grouped.value
+    ∙ flat_map-map (λ (g : Group). list_of t g.around js) (group_in own) (group_cells limit own)
+    ∙ ap (λ (f : Octant → List Entry). flat_map f (group_cells limit own)) same
+    ∙ ap (flat_map theirs) (sym (laws.groups limit some own grouped.same).1)
 
-lists_are : Laws → (u : Setup) (js own : List Particle) (groups : List Group) (lists : List GroupList) → IsLoneBuild u js → AreGroupsOf u.group js own groups → AreFinished u.theta js own groups lists → All (λ l. All (λ i. l.entries ≡ list_for u js js i) l.bodies) lists
-lists_are laws u js own groups lists lone grouped finished k d within n e inside =
-    let l = get_or lists k d in
-    let g = get_or groups k no_group in
-    let count = ap length finished.bodies in
-    let short = length-map lists (λ (l : GroupList). l.bodies) in
-    let shorter = length-map groups (λ (g : Group). at_span g.span own) in
-    let here : k < length groups = omega arith in
-    let bodies : l.bodies ≡ at_span g.span own =
-    sym (get_or-map (λ (l : GroupList). l.bodies) lists k d [] within)
-    ∙ ap (λ (ls : List (List Particle)). get_or ls k []) finished.bodies
-    ∙ get_or-map (λ (g : Group). at_span g.span own) groups k no_group [] here in
-    let entries : l.entries ≡ list_of u.theta g.around js =
-    sym (get_or-map (λ (l : GroupList). l.entries) lists k d [] within)
-    ∙ ap (λ (ls : List (List Entry)). get_or ls k []) finished.entries
-    ∙ get_or-map (λ (g : Group). list_of u.theta g.around js) groups k no_group [] here in
-    let i = get_or l.bodies n e in
-    let member : Contains (at_span g.span own) i =
-    subst (λ (b : List Particle). Contains b i) bodies (Contains-get_or l.bodies n e inside) in
-    let group = grouped.each k no_group here in
-    entries
-    ∙ ap (λ (b : Bounds). list_of u.theta b js) (group_box laws u.group js own g i grouped.same group member)
-    ∙ sym (lone.lists i (member_among u.group js own g i grouped.same group member))
+-- ---- elements of a list that pass a test
 
-lists_of_build : Laws → (u : Setup) (js own : List Particle) (groups : List Group) (lists : List GroupList) → IsLoneBuild u js → AreGroupsOf u.group js own groups → AreFinished u.theta js own groups lists → AreListsOf u js lists
-lists_of_build laws u js own groups lists lone grouped finished = record {
-  all = subst (IsPermutation js) (sym (bodies_are u.theta js own groups lists grouped.in_turn finished)) grouped.same;
-  each = lists_are laws u js own groups lists lone grouped finished;
-}
+one_passes : {X : Type 0} (P : X → Type 0) (x : X) → P x → All P (x ∷ [])
+one_passes P x here zero d within = here
+one_passes P x here (suc k) d within = absurd (omega arith)
 
--- the lists round the boxes of the groups, joined
-lists_joined : Laws → (u : Setup) (js own : List Particle) (groups : List Group) → AreGroupsOf u.group js own groups → flat_map (λ g. list_of u.theta g.around js) groups ≡ lone_lists u js
-lists_joined laws u js own groups grouped =
-    let round : Octant → List Entry = λ c. list_of u.theta (box_of (particles_in c own)) js in
-    let lone : Octant → List Entry = λ c. list_of u.theta (box_of (particles_in c js)) js in
-    let same : round ≡ lone = λ k c. list_of u.theta (box_of-same laws js own c grouped.same k) js in
-    ap (flat_map (λ (g : Group). list_of u.theta g.around js)) grouped.value
-    ∙ flat_map-map (λ (g : Group). list_of u.theta g.around js) (group_in own) (group_cells u.group own)
-    ∙ ap (λ (f : Octant → List Entry). flat_map f (group_cells u.group own)) same
-    ∙ ap (flat_map lone) (sym (laws.groups u.group js own grouped.same).1)
+passes : {X : Type 0} (test : X → Bool) (xs : List X) → All (λ x. test x ≡ true) (filter test xs)
+passes test [] = λ k d within. absurd (omega arith)
+passes {X} test (x ∷ xs) =
+    let P : X → Type 0 = λ y. test y ≡ true in
+    cond_both (test x) (x ∷ filter test xs) (filter test xs) (All P)
+    (λ yes. (let first : All P (x ∷ []) = λ k d within. one_passes P x yes k d within in All-append P (x ∷ []) (filter test xs) first (passes test xs)))
+    (λ no. passes test xs)
 
-entries_of_build : Laws → (u : Setup) (js own : List Particle) (groups : List Group) (lists : List GroupList) → AreGroupsOf u.group js own groups → AreFinished u.theta js own groups lists → all_entries lists ≡ lone_lists u js
-entries_of_build laws u js own groups lists grouped finished =
-    joined_from_maps (λ (l : GroupList). l.entries) (λ (g : Group). list_of u.theta g.around js) lists groups finished.entries
-    ∙ lists_joined laws u js own groups grouped
+-- ---- one rank
 
--- ---- what is told of them
+-- the particles of a rank are particles that it owns
+owned_among : (g : Division) (js : List Particle) (rank : ℕ) (i : Particle) → Contains (particles_of g js rank) i → Contains js i × (owner g js i.at ≡ rank)
+owned_among g js rank i member =
+    let test = λ (j : Particle). nat_eq (owner g js j.at) rank in (
+      All-contains (Contains js) (particles_of g js rank) i (All-filter test (Contains js) js (All-contains_itself js)) member,
+      eqb-true (owner g js i.at) rank (All-contains (λ (j : Particle). test j ≡ true) (particles_of g js rank) i (passes test js) member),
+    )
 
-groups_counted : Laws → (u : Setup) (js own : List Particle) (groups : List Group) (lists : List GroupList) → AreGroupsOf u.group js own groups → AreFinished u.theta js own groups lists → length lists ≡ length (group_cells u.group js)
-groups_counted laws u js own groups lists grouped finished =
-    sym (length-map lists (λ (l : GroupList). l.bodies)) ∙ ap length finished.bodies
-    ∙ length-map groups (λ (g : Group). at_span g.span own) ∙ ap length grouped.value
-    ∙ length-map (group_cells u.group own) (group_in own)
-    ∙ ap length (sym (laws.groups u.group js own grouped.same).1)
+-- a particle of the build is what it was
+as_built-same : (js : List Particle) (i : Particle) → IsStrictlyIncreasing (map (λ p. p.id) js) → Contains js i → as_built js i ≡ i
+as_built-same js i up (k, within, is) =
+    let all = all_now js js (ascend js up) refl in
+    ap (as_now js) (sym is) ∙ sym (get_or-map (as_now js) js k i i within) ∙ ap (λ (l : List Particle). get_or l k i) all ∙ is
 
-counts_of_build : Laws → (u : Setup) (js own : List Particle) (groups : List Group) (lists : List GroupList) (particles : ℕ) → particles ≡ length js → IsLoneBuild u js → AreGroupsOf u.group js own groups → AreFinished u.theta js own groups lists → counts_of particles lists ≡ rank_counts u js 0
-counts_of_build laws u js own groups lists particles all lone grouped finished =
-    let counted = groups_counted laws u js own groups lists grouped finished in
-    let entries = entries_of_build laws u js own groups lists grouped finished in
-    (λ k. record {
-      particles = all k;
-      groups = counted k;
-      cells = 0;
-      parts = 0;
-      listcells = cells_in (entries k);
-      listparts = particles_within (entries k);
-    }) ∙ sym lone.counts
+list_for-owned : Laws → (u : Setup) (js : List Particle) (rank : ℕ) (i : Particle) → IsStrictlyIncreasing (map (λ p. p.id) js) → Contains (particles_of u.grid js rank) i → list_for u js js i ≡ list_of u.theta (box_of (group_of u.group (particles_of u.grid js rank) i)) js
+list_for-owned laws u js rank i up member =
+    let owned = owned_among u.grid js rank i member in
+    ap (λ (b : Particle). kept_list u.theta (box_of (group_of u.group (particles_of u.grid js (owner u.grid js b.at)) b)) js js) (as_built-same js i up owned.0)
+    ∙ ap (λ (r : ℕ). kept_list u.theta (box_of (group_of u.group (particles_of u.grid js r) i)) js js) owned.1
+    ∙ laws.kept u.theta (box_of (group_of u.group (particles_of u.grid js rank) i)) js (distinct-ascending js (ascend js up))
+
+abbrev pub HaveLists : Setup → List Particle → List GroupList → Type 0
+HaveLists u js lists = All (λ l. All (λ i. l.entries ≡ list_for u js js i) l.bodies) lists
+
+skip_own : {X : Type 0} (f : ℕ → List X) (rank : ℕ) (ns : List ℕ) → flat_map f (filter (λ n. not (nat_eq n rank)) ns) ≡ flat_map (λ n. if nat_eq n rank then [] else f n) ns
+skip_own f rank [] = refl
+skip_own {X} f rank (n ∷ ns) =
+    elim (cases_eq n rank) [
+      | inl same ↦ rw (eq-eqb n rank same) (skip_own f rank ns)
+      | inr other ↦ rw (ne_eqb n rank other) (ap (λ (rest : List X). f n ++ rest) (skip_own f rank ns))
+    ]
+
+-- every rank is the own one or was absorbed
+whole : (limit : ℕ) (g : Division) (js : List Particle) (rank : ℕ) (gather : Gathering) → HasGathered limit g js rank gather → IsWhole g gather
+whole limit g js rank gather has other below =
+    subst (λ (l : List ℕ). Contains l other) (λ k. sym has.number k ∷ sym has.absorbed k) (all_others (rank_count g) rank other below)
+
+module _ (laws : Laws) (u : Setup) (js : List Particle) (rank : ℕ) (gather : Gathering) (division : IsDivision u.grid) (within : rank < rank_count u.grid) (has : HasGathered u.group u.grid js rank gather) where
+  own_particles : List Particle
+  own_particles = particles_of u.grid js rank
+
+  all_in : IsWhole u.grid gather
+  all_in = whole u.group u.grid js rank gather has
+
+  rank_lists : flat_map (λ (g : Group). list_of u.theta g.around js) gather.groups ≡ lists_of u js rank
+  unfolding own_particles
+  rank_lists =
+      lists_joined laws u.theta u.group js own_particles gather.own gather.groups has.groups
+      ∙ sym (flat_map-map (group_list u.theta js) (λ (c : Octant). record { rank = rank; members = particles_in c own_particles }) (group_cells u.group own_particles))
+
+  pub rank_entries : gathered_count u.theta u.grid js gather ≡ sum_by (λ group. length (group_list u.theta js group)) (groups_of_rank u.group u.grid js rank)
+  rank_entries =
+      ap (λ (ks : List Particle). sum_by (λ (group : Group). length (list_of u.theta group.around ks)) gather.groups) (laws.ranks u.grid js (gather.rank ∷ gather.absorbed) division all_in)
+      ∙ sym (length-flat_map (λ (group : Group). list_of u.theta group.around js) gather.groups)
+      ∙ ap length rank_lists
+      ∙ length-flat_map (group_list u.theta js) (groups_of_rank u.group u.grid js rank)
+
+  module _ (r : RankLists) (finished : IsFinished u.theta u.grid js gather r) where
+    pub own_bodies : IsPermutation (particles_of u.grid js rank) (flat_map (λ l. l.bodies) r.lists)
+    own_bodies = subst (IsPermutation (particles_of u.grid js rank)) (sym (bodies_are gather.own gather.groups r.lists has.groups.in_turn finished.bodies)) has.groups.same
+
+    rank_all_entries : all_entries r.lists ≡ lists_of u js rank
+    rank_all_entries =
+        joined_from_maps (λ (l : GroupList). l.entries) (λ (g : Group). list_of u.theta g.around js) r.lists gather.groups finished.entries ∙ rank_lists
+
+    group_number : length r.lists ≡ length (groups_of_rank u.group u.grid js rank)
+    unfolding own_particles
+    group_number =
+        sym (length-map r.lists (λ (l : GroupList). l.bodies)) ∙ ap length finished.bodies
+        ∙ length-map gather.groups (λ (g : Group). at_span g.span gather.own) ∙ ap length has.groups.value
+        ∙ length-map (group_cells u.group gather.own) (group_in gather.own)
+        ∙ ap length (sym (laws.groups u.group own_particles gather.own has.groups.same).1)
+        ∙ sym (length-map (group_cells u.group own_particles) (λ (c : Octant). record { rank = rank; members = particles_in c own_particles }))
+
+    came : received_by u.theta u.grid js gather ≡ texts.received_by u js rank
+    came =
+        (λ k. flat_map (λ src. essential_tree u.theta u.grid js src (has.number k)) (has.absorbed k))
+        ∙ skip_own (λ src. essential_tree u.theta u.grid js src rank) rank (range_with_len 0 (rank_count u.grid))
+
+    pub line_is : r.line ≡ rank_counts u js rank
+    unfolding rank_counts
+    line_is =
+        let owned = length_permutation (particles_of u.grid js rank) gather.own has.groups.same in
+        finished.line ∙ (λ k. record {
+          particles = owned k;
+          groups = group_number k;
+          cells = cells_in (came k);
+          parts = particles_within (came k);
+          listcells = cells_in (rank_all_entries k);
+          listparts = particles_within (rank_all_entries k);
+        })
+
+    pub have_lists : IsStrictlyIncreasing (map (λ p. p.id) js) → HaveLists u js r.lists
+    have_lists up k d inside n e within_bodies =
+        let l = get_or r.lists k d in
+        let g = get_or gather.groups k no_group in
+        let count = ap length finished.bodies in
+        let short = length-map r.lists (λ (l : GroupList). l.bodies) in
+        let shorter = length-map gather.groups (λ (g : Group). at_span g.span gather.own) in
+        let here : k < length gather.groups = omega arith in
+        let bodies : l.bodies ≡ at_span g.span gather.own =
+        sym (get_or-map (λ (l : GroupList). l.bodies) r.lists k d [] inside)
+        ∙ ap (λ (ls : List (List Particle)). get_or ls k []) finished.bodies
+        ∙ get_or-map (λ (g : Group). at_span g.span gather.own) gather.groups k no_group [] here in
+        let entries : l.entries ≡ list_of u.theta g.around js =
+        sym (get_or-map (λ (l : GroupList). l.entries) r.lists k d [] inside)
+        ∙ ap (λ (ls : List (List Entry)). get_or ls k []) finished.entries
+        ∙ get_or-map (λ (g : Group). list_of u.theta g.around js) gather.groups k no_group [] here in
+        let i = get_or l.bodies n e in
+        let member : Contains (at_span g.span gather.own) i =
+        subst (λ (b : List Particle). Contains b i) bodies (Contains-get_or l.bodies n e within_bodies) in
+        let group = has.groups.each k no_group here in
+        let among = member_among u.group (particles_of u.grid js rank) gather.own g i has.groups.same group member in
+        entries
+        ∙ ap (λ (b : Bounds). list_of u.theta b js) (group_box laws u.group (particles_of u.grid js rank) gather.own g i has.groups.same group member)
+        ∙ sym (list_for-owned laws u js rank i up among)
+
+-- ---- all ranks
+
+sum_of_sums : {X : Type 0} (h : X → ℕ) (f : ℕ → List X) (ns : List ℕ) → sum_by h (flat_map f ns) ≡ sum_by (λ n. sum_by h (f n)) ns
+sum_of_sums h f [] = refl
+sum_of_sums h f (n ∷ ns) =
+    let both = sum_by-append h (f n) (flat_map f ns) in
+    let more = sum_by-cons (λ m. sum_by h (f m)) n ns in
+    let rest = sum_of_sums h f ns in
+    omega arith
+
+sum_by_rank : {X : Type 0} (h : X → ℕ) (f : ℕ → ℕ) (start : ℕ) (xs : List X) → ((k : ℕ) (d : X) → k < length xs → h (get_or xs k d) ≡ f (start + k)) → sum_by h xs ≡ sum_by f (range_with_len start (length xs))
+sum_by_rank h f start [] each = refl
+sum_by_rank h f start (x ∷ xs) each =
+    let rest = sum_by_rank h f (start + 1) xs (λ k d within. each (suc k) d (omega arith) ∙ ap f (omega arith)) in
+    let here : h x ≡ f start = each 0 x (omega arith) ∙ ap f (omega arith) in
+    let one = sum_by-cons h x xs in
+    let more = sum_by-cons f start (range_with_len (start + 1) (length xs)) in
+    omega arith
+
+map_by_rank : {X Y : Type 0} (h : X → Y) (f : ℕ → Y) (start : ℕ) (xs : List X) → ((k : ℕ) (d : X) → k < length xs → h (get_or xs k d) ≡ f (start + k)) → map h xs ≡ map f (range_with_len start (length xs))
+map_by_rank h f start [] each = refl
+map_by_rank h f start (x ∷ xs) each =
+    let rest = map_by_rank h f (start + 1) xs (λ k d within. each (suc k) d (omega arith) ∙ ap f (omega arith)) in
+    let here : h x ≡ f start = each 0 x (omega arith) ∙ ap f (omega arith) in
+    (λ i. here i ∷ rest i)
+
+permuted_by_rank : {X Y : Type 0} (own : ℕ → List Y) (f : X → List Y) (start : ℕ) (xs : List X) → ((k : ℕ) (d : X) → k < length xs → IsPermutation (own (start + k)) (f (get_or xs k d))) → IsPermutation (flat_map own (range_with_len start (length xs))) (flat_map f xs)
+permuted_by_rank own f start [] each = IsPermutation-refl []
+permuted_by_rank {X} {Y} own f start (x ∷ xs) each =
+    let first : IsPermutation (own start) (f x) = subst (λ (n : ℕ). IsPermutation (own n) (f x)) (omega arith) (each 0 x (omega arith)) in
+    let rest = permuted_by_rank own f (start + 1) xs (λ k d within. subst (λ (n : ℕ). IsPermutation (own n) (f (get_or xs k d))) (omega arith) (each (suc k) d (omega arith))) in
+    IsPermutation-append (own start) (f x) (flat_map own (range_with_len (start + 1) (length xs))) (flat_map f xs) first rest
+
+all_joined : {X Y : Type 0} (P : Y → Type 0) (f : X → List Y) (xs : List X) → ((k : ℕ) (d : X) → k < length xs → All P (f (get_or xs k d))) → All P (flat_map f xs)
+all_joined P f [] each = λ k d within. absurd (omega arith)
+all_joined P f (x ∷ xs) each = All-append P (f x) (flat_map f xs) (each 0 x (omega arith)) (all_joined P f xs (λ k d within. each (suc k) d (omega arith)))
+
+joined_bodies : {X : Type 0} (f : X → List GroupList) (xs : List X) → flat_map (λ (l : GroupList). l.bodies) (flat_map f xs) ≡ flat_map (λ x. flat_map (λ (l : GroupList). l.bodies) (f x)) xs
+joined_bodies f [] = refl
+joined_bodies f (x ∷ xs) =
+    flat_map-append (λ (l : GroupList). l.bodies) (f x) (flat_map f xs) ∙ ap (λ rest. flat_map (λ (l : GroupList). l.bodies) (f x) ++ rest) (joined_bodies f xs)
+
+pub all_whole : (limit : ℕ) (g : Division) (js : List Particle) (gathers : List Gathering) → HaveGathered limit g js gathers → All (IsWhole g) gathers
+all_whole limit g js gathers have k d within = whole limit g js k (get_or gathers k d) (have.each k d within)
+
+-- where a sum is few, each part is
+pub each_few : {X : Type 0} (h : X → ℕ) (most : ℕ) (xs : List X) → sum_by h xs ≤ most → All (λ x. h x ≤ most) xs
+each_few h most [] few k d within = absurd (omega arith)
+each_few h most (x ∷ xs) few zero d within = (let one = sum_by-cons h x xs in omega arith)
+each_few h most (x ∷ xs) few (suc k) d within = (let one = sum_by-cons h x xs in each_few h most xs (omega arith) k d (omega arith))
+
+no_gather : Gathering
+no_gather = record { rank = 0; own = []; groups = []; absorbed = [] }
+
+module _ (laws : Laws) (u : Setup) (js : List Particle) (gathers : List Gathering) (division : IsDivision u.grid) (have : HaveGathered u.group u.grid js gathers) where
+  has_at : (k : ℕ) (d : Gathering) → k < length gathers → HasGathered u.group u.grid js k (get_or gathers k d)
+  has_at k d within = have.each k d within
+
+  in_grid : (k : ℕ) → k < length gathers → k < rank_count u.grid
+  in_grid k within = (let same = have.counted in omega arith)
+
+  pub entries_counted : sum_by (gathered_count u.theta u.grid js) gathers ≡ entry_count u js
+  unfolding all_groups
+  entries_counted =
+      let each : ℕ → ℕ = λ rank. sum_by (λ group. length (group_list u.theta js group)) (groups_of_rank u.group u.grid js rank) in
+      sum_by_rank (gathered_count u.theta u.grid js) each 0 gathers (λ k d within. rank_entries laws u js k (get_or gathers k d) division (in_grid k within) (has_at k d within) ∙ ap each (omega arith))
+      ∙ ap (λ (n : ℕ). sum_by each (range_with_len 0 n)) have.counted
+      ∙ sym (sum_of_sums (λ (group : RankGroup). length (group_list u.theta js group)) (groups_of_rank u.group u.grid js) (range_with_len 0 (rank_count u.grid)))
+
+  module _ (up : IsStrictlyIncreasing (map (λ p. p.id) js)) (finished : List RankLists) (are : AreFinished u.theta u.grid js gathers finished) where
+    as_long : length finished ≡ rank_count u.grid
+    as_long = are.counted ∙ have.counted
+
+    inside : (k : ℕ) → k < length finished → k < length gathers
+    inside k within = (let same = are.counted in omega arith)
+
+    finished_at : (k : ℕ) (d : RankLists) → k < length finished → IsFinished u.theta u.grid js (get_or gathers k no_gather) (get_or finished k d)
+    finished_at k d within = are.each k d within no_gather
+
+    pub all_lists : AreListsOf u js (flat_map (λ r. r.lists) finished)
+    all_lists = record {
+      all =
+          let dealt : IsPermutation js (flat_map (particles_of u.grid js) (range_with_len 0 (rank_count u.grid))) = dealt_out (λ (j : Particle). owner u.grid js j.at) (rank_count u.grid) (λ j. laws.owners u.grid js j.at division) js in
+          let own = permuted_by_rank (particles_of u.grid js) (λ (r : RankLists). flat_map (λ (l : GroupList). l.bodies) r.lists) 0 finished
+          (λ k d within. subst (λ (n : ℕ). IsPermutation (particles_of u.grid js n) (flat_map (λ (l : GroupList). l.bodies) (get_or finished k d).lists)) (omega arith)
+          (own_bodies laws u js k (get_or gathers k no_gather) division (in_grid k (inside k within)) (has_at k no_gather (inside k within)) (get_or finished k d) (finished_at k d within))) in
+          let whole : IsPermutation (flat_map (particles_of u.grid js) (range_with_len 0 (rank_count u.grid))) (flat_map (λ (l : GroupList). l.bodies) (flat_map (λ (r : RankLists). r.lists) finished)) =
+          subst (IsPermutation (flat_map (particles_of u.grid js) (range_with_len 0 (rank_count u.grid)))) (sym (joined_bodies (λ (r : RankLists). r.lists) finished))
+          (subst (λ (n : ℕ). IsPermutation (flat_map (particles_of u.grid js) (range_with_len 0 n)) (flat_map (λ (r : RankLists). flat_map (λ (l : GroupList). l.bodies) r.lists) finished)) as_long own) in
+          IsPermutation-trans js (flat_map (particles_of u.grid js) (range_with_len 0 (rank_count u.grid))) (flat_map (λ (l : GroupList). l.bodies) (flat_map (λ (r : RankLists). r.lists) finished)) dealt whole;
+      each =
+          all_joined (λ (l : GroupList). All (λ i. l.entries ≡ list_for u js js i) l.bodies) (λ (r : RankLists). r.lists) finished
+          (λ k d within. have_lists laws u js k (get_or gathers k no_gather) division (in_grid k (inside k within)) (has_at k no_gather (inside k within)) (get_or finished k d) (finished_at k d within) up);
+    }
+
+    pub all_lines : map (λ (r : RankLists). r.line) finished ≡ map (rank_counts u js) (ranks u)
+    all_lines =
+        map_by_rank (λ (r : RankLists). r.line) (rank_counts u js) 0 finished
+        (λ k d within. line_is laws u js k (get_or gathers k no_gather) division (in_grid k (inside k within)) (has_at k no_gather (inside k within)) (get_or finished k d) (finished_at k d within) ∙ ap (rank_counts u js) (omega arith))
+        ∙ ap (λ (n : ℕ). map (rank_counts u js) (range_with_len 0 n)) as_long
 
 -- ---- how many entries they have
-
--- a lone rank has everything
-whole_alone : (limit : ℕ) (g : Division) (js : List Particle) (gather : Gathering) → rank_count g ≡ 1 → IsGatherOfAll limit js gather → IsWhole g gather
-whole_alone limit g js gather one all rank within =
-    let first = ap (λ (v : Gathering). v.rank) all.value in
-    let same : gather.rank ≡ rank = omega arith in
-    (0, omega arith, same)
-
-gathered_is_entry_count : Laws → (u : Setup) (g : Division) (js : List Particle) (gather : Gathering) → IsDivision g → rank_count g ≡ 1 → IsLoneBuild u js → IsGatherOfAll u.group js gather → gathered_count u.theta g js gather ≡ entry_count u js
-gathered_is_entry_count laws u g js gather division one lone all =
-    let whole = whole_alone u.group g js gather one all in
-    ap (λ (ks : List Particle). sum_by (λ (group : Group). length (list_of u.theta group.around ks)) gather.groups) (laws.ranks g js (gather.rank ∷ gather.absorbed) division whole)
-    ∙ sym (length-flat_map (λ (group : Group). list_of u.theta group.around js) gather.groups)
-    ∙ ap length (lists_joined laws u js gather.own gather.groups all.groups)
-    ∙ sym lone.entries
 
 few_entries : (u : Setup) (js : List Particle) → entry_count u js ≤ 2 ^ 24 → lists_fault u js ≡ None
 few_entries u js few = sym (cond_above (2 ^ 24) (entry_count u js) (Some (stop.Lists (entry_count u js))) None None few refl)
@@ -239,42 +358,34 @@ many_entries u js count same many =
 
 -- ---- as a run that builds so sees it
 
--- what is known of a gather of all particles on one rank
-pub record IsReady (limit : ℕ) (g : Division) (js : List Particle) (gather : Gathering) : Type 0 where
+-- what is known where every rank has gathered
+pub record AreReady (limit : ℕ) (g : Division) (js : List Particle) (gathers : List Gathering) : Type 0 where
   pub division : IsDivision g
-  pub one_rank : g ≡ record { nx = 1; ny = 1; nz = 1 }
-  pub distinct : HaveDistinctIds js
-  pub all : IsGatherOfAll limit js gather
+  pub up : IsStrictlyIncreasing (map (λ p. p.id) js)
+  pub all : HaveGathered limit g js gathers
 
-lone_build : Laws → (t : Criterion) (limit : ℕ) (u : Setup) (g : Division) (js : List Particle) (gather : Gathering) → BuildsBy t limit u → IsReady limit g js gather → IsLoneBuild u js
-lone_build laws t limit u g js gather by ready =
-    laws.lone u js (subst IsDivision (ready.one_rank ∙ sym by.one_rank) ready.division) (ap rank_count by.one_rank) ready.distinct
+module _ (laws : Laws) (g : Division) (t : Criterion) (limit : ℕ) (js : List Particle) (gathers : List Gathering) (ready : AreReady limit g js gathers) (u : Setup) (by : BuildsBy g t limit u) where
+  ready_for : HaveGathered u.group u.grid js gathers
+  ready_for = subst (λ (h : Division). HaveGathered u.group h js gathers) (sym by.grid) (subst (λ (n : ℕ). HaveGathered n g js gathers) (sym by.group) ready.all)
 
-gather_for : (t : Criterion) (limit : ℕ) (u : Setup) (js : List Particle) (gather : Gathering) → BuildsBy t limit u → IsGatherOfAll limit js gather → IsGatherOfAll u.group js gather
-gather_for t limit u js gather by all = subst (λ (n : ℕ). IsGatherOfAll n js gather) (sym by.group) all
+  divided : IsDivision u.grid
+  divided = subst IsDivision (sym by.grid) ready.division
 
-finished_for : (t : Criterion) (limit : ℕ) (u : Setup) (js own : List Particle) (groups : List Group) (lists : List GroupList) → BuildsBy t limit u → AreFinished t js own groups lists → AreFinished u.theta js own groups lists
-finished_for t limit u js own groups lists by finished =
-    subst (λ (c : Criterion). AreFinished c js own groups lists) (sym by.theta) finished
+  counted_for : sum_by (gathered_count t g js) gathers ≡ entry_count u js
+  counted_for =
+      (λ k. sum_by (gathered_count (sym by.theta k) (sym by.grid k) js) gathers) ∙ entries_counted laws u js gathers divided ready_for
 
-pub lists_for_run : Laws → (t : Criterion) (limit : ℕ) (g : Division) (js : List Particle) (gather : Gathering) (lists : List GroupList) → IsReady limit g js gather → AreFinished t js gather.own gather.groups lists → (u : Setup) → BuildsBy t limit u → AreListsOf u js lists
-lists_for_run laws t limit g js gather lists ready finished u by =
-    lists_of_build laws u js gather.own gather.groups lists (lone_build laws t limit u g js gather by ready) (gather_for t limit u js gather by ready.all).groups (finished_for t limit u js gather.own gather.groups lists by finished)
+  finished_for : (finished : List RankLists) → AreFinished t g js gathers finished → AreFinished u.theta u.grid js gathers finished
+  finished_for finished are = subst (λ (h : Division). AreFinished u.theta h js gathers finished) (sym by.grid) (subst (λ (c : Criterion). AreFinished c g js gathers finished) (sym by.theta) are)
 
-pub counts_for_run : Laws → (t : Criterion) (limit : ℕ) (g : Division) (js : List Particle) (gather : Gathering) (lists : List GroupList) (particles : ℕ) → IsReady limit g js gather → AreFinished t js gather.own gather.groups lists → particles ≡ length js → (u : Setup) → BuildsBy t limit u → counts_of particles lists ≡ rank_counts u js 0
-counts_for_run laws t limit g js gather lists particles ready finished all u by =
-    counts_of_build laws u js gather.own gather.groups lists particles all (lone_build laws t limit u g js gather by ready) (gather_for t limit u js gather by ready.all).groups (finished_for t limit u js gather.own gather.groups lists by finished)
+  pub lists_for_run : (finished : List RankLists) → AreFinished t g js gathers finished → AreListsOf u js (flat_map (λ r. r.lists) finished)
+  lists_for_run finished are = all_lists laws u js gathers divided ready_for ready.up finished (finished_for finished are)
 
-counted_for : Laws → (t : Criterion) (limit : ℕ) (g : Division) (js : List Particle) (gather : Gathering) (count : ℕ) → IsReady limit g js gather → count ≡ gathered_count t g js gather → (u : Setup) → BuildsBy t limit u → count ≡ entry_count u js
-counted_for laws t limit g js gather count ready counted u by =
-    counted ∙ ap (λ (c : Criterion). gathered_count c g js gather) (sym by.theta)
-    ∙ gathered_is_entry_count laws u g js gather ready.division (ap rank_count ready.one_rank) (lone_build laws t limit u g js gather by ready) (gather_for t limit u js gather by ready.all)
+  pub lines_for_run : (finished : List RankLists) → AreFinished t g js gathers finished → map (λ r. r.line) finished ≡ map (rank_counts u js) (ranks u)
+  lines_for_run finished are = all_lines laws u js gathers divided ready_for ready.up finished (finished_for finished are)
 
-pub few_for_run : Laws → (t : Criterion) (limit : ℕ) (g : Division) (js : List Particle) (gather : Gathering) (count : ℕ) → IsReady limit g js gather → count ≡ gathered_count t g js gather → count ≤ 2 ^ 24 → (u : Setup) → BuildsBy t limit u → lists_fault u js ≡ None
-few_for_run laws t limit g js gather count ready counted few u by =
-    let same = counted_for laws t limit g js gather count ready counted u by in
-    few_entries u js (omega arith)
+  pub few_for_run : (count : ℕ) → count ≡ sum_by (gathered_count t g js) gathers → count ≤ 2 ^ 24 → lists_fault u js ≡ None
+  few_for_run count counted few = (let same = counted_for in few_entries u js (omega arith))
 
-pub many_for_run : Laws → (t : Criterion) (limit : ℕ) (g : Division) (js : List Particle) (gather : Gathering) (count : ℕ) → IsReady limit g js gather → count ≡ gathered_count t g js gather → 2 ^ 24 < count → (u : Setup) → BuildsBy t limit u → lists_fault u js ≡ Some (stop.Lists count)
-many_for_run laws t limit g js gather count ready counted many u by =
-    many_entries u js count (counted_for laws t limit g js gather count ready counted u by) many
+  pub many_for_run : (count : ℕ) → count ≡ sum_by (gathered_count t g js) gathers → 2 ^ 24 < count → lists_fault u js ≡ Some (stop.Lists count)
+  many_for_run count counted many = many_entries u js count (counted ∙ counted_for) many

@@ -1,8 +1,8 @@
 -- The forces by the lists of a build are those of the run.
-use Rattle.std.proofs.Common.{◌≡◌, ◌≤◌, ℤ, List, [], ◌∷◌, ◌++◌, get_or, map, Option, Some, None, refl, sym, ◌∙◌, ap, subst, arith}
+use Rattle.std.proofs.Common.{◌≡◌, ◌≤◌, ℤ, List, [], ◌∷◌, get_or, map, Option, Some, None, refl, sym, ◌∙◌, ap, subst, arith}
 use Rattle.std.specs.Prelude.{option_map, nat_lt}
 use Rattle.std.specs.List.{All, Contains, filter_map, zip}
-use Rattle.std.proofs.lemmas.List.{map-append, append-nil}
+use Rattle.std.proofs.lemmas.List.{map-append}
 use Rattle.std.proofs.lemmas.List.Elements.{All-head, All-tail, All-contains, filter_map-append}
 use Rattle.std.proofs.lemmas.List.Sorted.{Contains-permutation, IsPermutation-sym}
 use Rattle.kern_tree.specs.declared.kernel.Kernel.{Kernel}
@@ -151,19 +151,19 @@ module _ (one : OrdersByIdAreOne) (u : Setup) (now : List Particle) (lists : Lis
 -- ---- as the phase answers
 
 module _ (one : OrdersByIdAreOne) (u : Setup) (k : Kernel) (e : Edge) (now : List Particle) (lists : List GroupList) (takes : TakesFrom k e now lists u) (ascending : Ascend now) where
-  pub TakesFrom_forces : (rows : List IdRow) → rows ≡ rows_by_id e k (lists ++ []) → map with_row (zip now rows) ≡ with_forces u now now
+  pub TakesFrom_forces : (rows : List IdRow) → rows ≡ rows_by_id e k lists → map with_row (zip now rows) ≡ with_forces u now now
   TakesFrom_forces rows is =
       forces_are one u now lists takes.lists ascending rows
-      (is ∙ ap (rows_by_id e k) (append-nil lists) ∙ ap (λ (edge : Edge). rows_by_id edge k lists) (sym takes.edge) ∙ ap (λ (kernel : Kernel). rows_by_id u.theta.edge kernel lists) (sym takes.kernel))
+      (is ∙ ap (λ (edge : Edge). rows_by_id edge k lists) (sym takes.edge) ∙ ap (λ (kernel : Kernel). rows_by_id u.theta.edge kernel lists) (sym takes.kernel))
 
-  same_faults : faults_in e k (lists ++ []) ≡ faults_in u.theta.edge u.kernel lists
+  same_faults : faults_in e k lists ≡ faults_in u.theta.edge u.kernel lists
   same_faults =
-      ap (faults_in e k) (append-nil lists) ∙ ap (λ (edge : Edge). faults_in edge k lists) (sym takes.edge) ∙ ap (λ (kernel : Kernel). faults_in u.theta.edge kernel lists) (sym takes.kernel)
+      ap (λ (edge : Edge). faults_in edge k lists) (sym takes.edge) ∙ ap (λ (kernel : Kernel). faults_in u.theta.edge kernel lists) (sym takes.kernel)
 
-  pub TakesFrom_no_fault : faults_in e k (lists ++ []) ≡ [] → first_given (forces_fault u now now) now ≡ None
+  pub TakesFrom_no_fault : faults_in e k lists ≡ [] → first_given (forces_fault u now now) now ≡ None
   TakesFrom_no_fault none = no_fault_is one u now lists takes.lists ascending (sym same_faults ∙ none)
 
-  pub TakesFrom_fault : (fault : PhaseFault) → StopsPhase e k (lists ++ []) fault → StopsAt (first_given (forces_fault u now now) now) (of_phase fault)
+  pub TakesFrom_fault : (fault : PhaseFault) → StopsPhase e k lists fault → StopsAt (first_given (forces_fault u now now) now) (of_phase fault)
   TakesFrom_fault (phase.Numeric fault) stops =
       let least = subst (λ (ys : List Fault). Contains ys fault × All (λ other. fault.id ≤ other.id) ys) same_faults stops in
       least_is one u now lists takes.lists ascending fault least.0 least.1

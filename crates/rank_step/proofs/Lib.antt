@@ -9,3 +9,6 @@ pub mod PhaseLemmas
 pub mod FaultLemmas
 pub mod ForceLemmas
 pub mod StepLemmas
+pub mod TotalLemmas
+pub mod TreeLemmas
+pub mod GatheredLemmas

@@ -22,7 +22,7 @@ ids_rise (p ∷ ps) h zero (suc j) d below within = (let above = above_all p.id 
 ids_rise (p ∷ ps) h (suc i) zero d below within = absurd (omega arith)
 ids_rise (p ∷ ps) h (suc i) (suc j) d below within = ids_rise ps h.1 i j d (omega arith) (omega arith)
 
-finds : (id : ℕ) (k : ℕ) (js : List Particle) (d : Particle) → ((i : ℕ) (e : Particle) → i < k → (get_or js i e).id < id) → k < length js → (get_or js k d).id ≡ id → find (λ q. nat_eq id q.id) js ≡ Some (get_or js k d)
+pub finds : (id : ℕ) (k : ℕ) (js : List Particle) (d : Particle) → ((i : ℕ) (e : Particle) → i < k → (get_or js i e).id < id) → k < length js → (get_or js k d).id ≡ id → find (λ q. nat_eq id q.id) js ≡ Some (get_or js k d)
 finds id k [] d less within is = absurd (omega arith)
 finds id zero (q ∷ qs) d less within is = cond-true (nat_eq id q.id) (Some q) (find (λ r. nat_eq id r.id) qs) (eq-eqb id q.id (sym is))
 finds id (suc k) (q ∷ qs) d less within is =
@@ -95,7 +95,7 @@ same_above n (p ∷ ps) (q ∷ qs) e h =
     (let l = h.0 in omega arith, same_above n ps qs tail h.1)
 
 -- those with the ids of some particles are now these
-all_now : (now built : List Particle) → Ascend now → map (λ (p : Particle). p.id) built ≡ map (λ (p : Particle). p.id) now → map (as_now now) built ≡ now
+pub all_now : (now built : List Particle) → Ascend now → map (λ (p : Particle). p.id) built ≡ map (λ (p : Particle). p.id) now → map (as_now now) built ≡ now
 all_now [] [] h e = refl
 all_now [] (p ∷ ps) h e = absurd (cc)
 all_now (q ∷ qs) [] h e = absurd (cc)

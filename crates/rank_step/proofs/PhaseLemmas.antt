@@ -1,25 +1,27 @@
 -- The phases Leave and Settle, over all ranks.
 use Rattle.std.proofs.Common.{◌≡◌, ℕ, zero, suc, ◌+◌, ◌<◌, ◌≤◌, Bool, true, cond, not, List, [], ◌∷◌, ◌++◌, length, get_or, set, take, map, nat_eq, inl, inr, refl, sym, ◌∙◌, ap, subst, arith}
 use Rattle.std.specs.List.{All, Contains, filter, flat_map, range_with_len, zip}
+use Rattle.std.specs.List.Sorted.{IsPermutation, IsStrictlyIncreasing}
 use Rattle.std.proofs.lemmas.Bool.{cases_eq, cond-true, cond-false, cond_both, eq-eqb, ne_eqb, not_from_false, not_from_true}
 use Rattle.std.proofs.lemmas.List.{append-nil, take_more, same_lists, length-set, get_or-set_same, get_or-set_other, get_or_default}
 use Rattle.std.proofs.lemmas.List.Concat.{flat_map-append}
 use Rattle.std.proofs.lemmas.List.Elements.{All-map, All-filter, filter-append}
 use Rattle.std.proofs.lemmas.List.FromFn.{length-map-range_with_len, get_or-map-range_with_len, get_or-range_with_len, length-range_with_len}
 use Rattle.std.proofs.lemmas.List.Sorted.{IsPermutation-refl, length_permutation}
-use Rattle.pf_model.specs.Division.{Division, rank_count}
-use Rattle.pf_model.specs.DomainLaws.{CutsIgnoreOrder, DomainsIgnoreOrder}
-use Rattle.pf_model.specs.Domains.{Multisection, IsMultisection, owner, particles_of, cuts_for}
+use Rattle.pf_model.specs.Division.{Division, IsDivision, rank_count}
+use Rattle.pf_model.specs.DomainLaws.{CutsIgnoreOrder, DomainsIgnoreOrder, OwnersAreRanks}
+use Rattle.pf_model.specs.Domains.{Multisection, owner, particles_of, cuts_for}
 use Rattle.pf_model.specs.IdLaws.{OrdersByIdAreOne}
 use Rattle.pf_model.specs.Particle.{Particle}
 use Rattle.pf_model.specs.ParticleLaws.{DistinctIdsIgnoreOrder, SomeHaveDistinctIds}
-use Rattle.pf_model.specs.Particles.{AreBodies, HaveDistinctIds, by_id}
+use Rattle.pf_model.specs.Particles.{AreBodies, by_id}
 use Rattle.exchange.specs.States.{Holding, Package, joined, left_with, owned_by, parcel_for, parcels_from}
-use Rattle.exchange.specs.ExchangeLaws.{AreOfAllRanks, particles_held, parcels_to, HasItsOwn, EachRankHasItsOwn, RanksTogetherHaveAll}
+use Rattle.exchange.specs.ExchangeLaws.{AreOfAllRanks, particles_held, parcels_to, HasItsOwn, EachRankHasItsOwn}
 use Rattle.rank_step.specs.Phases.{inboxes_with, settled_with}
 use Rattle.rank_step.specs.Ranks.{HaveTogether, with_owners}
-use Rattle.rank_step.proofs.DealLemmas.{have_together}
+use Rattle.rank_step.proofs.DealLemmas.{dealt_out, have_together, kept_ascend}
 use Rattle.rank_step.proofs.StepLemmas.{written}
+use Rattle.rank_step.proofs.OrderLemmas.{ascend, by_id-ascending}
 
 -- ---- Leave
 
@@ -268,7 +270,15 @@ arrives g js s lent home n left rest came long left_is came_is =
       owners = ap (map settled_with) all ∙ home.owners;
     }
 
+agree_in_turn : (f g : ℕ → List Particle) (ns : List ℕ) → ((n : ℕ) → f n ≡ g n) → flat_map f ns ≡ flat_map g ns
+agree_in_turn f g [] each = refl
+agree_in_turn f g (n ∷ ns) each = (λ i. each n i ++ agree_in_turn f g ns each i)
+
 -- where each particle is with its owner, the ranks have them together
-pub owners_together : RanksTogetherHaveAll → (g : Division) (js : List Particle) → IsMultisection (cuts_for g js) → HaveDistinctIds js → HaveTogether g js (with_owners g js)
-unfolding owner cuts_for
-owners_together law g js cuts distinct = have_together g js (λ rank. by_id (particles_of g js rank)) (law (cuts_for g js) js cuts distinct)
+pub owners_together : OwnersAreRanks → (g : Division) (js : List Particle) → IsDivision g → IsStrictlyIncreasing (map (λ p. p.id) js) → HaveTogether g js (with_owners g js)
+owners_together law g js division up =
+    let key = λ (j : Particle). owner g js j.at in
+    let dealt : IsPermutation js (flat_map (particles_of g js) (range_with_len 0 (rank_count g))) = dealt_out key (rank_count g) (λ j. law g js j.at division) js in
+    let ordered = agree_in_turn (λ rank. by_id (particles_of g js rank)) (particles_of g js) (range_with_len 0 (rank_count g))
+    (λ rank. by_id-ascending (particles_of g js rank) (kept_ascend (λ j. nat_eq (owner g js j.at) rank) js (ascend js up))) in
+    have_together g js (λ rank. by_id (particles_of g js rank)) (subst (IsPermutation js) (sym ordered) dealt)

@@ -1,22 +1,26 @@
 -- The parts of a step, joined.
-use Rattle.std.proofs.Common.{◌≡◌, ℕ, ℤ, ◌+◌, ◌%◌, ◌<◌, ◌≤◌, zero, suc, Bool, true, List, [], ◌∷◌, ◌++◌, length, take, map, Option, Some, None, refl, sym, ◌∙◌, ap, subst, arith, add-one}
-use Rattle.std.specs.Prelude.{Result, Ok, Err, IfOk, option_map, option_and_then, if◌then◌else◌, IsPermutation}
+use Rattle.std.proofs.Common.{◌≡◌, ℕ, ℤ, ◌+◌, ◌%◌, ◌<◌, ◌≤◌, zero, suc, Bool, true, List, [], ◌∷◌, ◌++◌, length, get_or, take, map, Option, Some, None, refl, sym, ◌∙◌, ap, subst, arith, add-one}
+use Rattle.std.specs.Prelude.{Result, Ok, Err, IfOk, unwrap_or, option_map, option_and_then, if◌then◌else◌, IsPermutation}
+use Rattle.std.specs.List.{All}
 use Rattle.std.specs.List.Sorted.{IsStrictlyIncreasing, IsNonDecreasing, IsNonDecreasingBy}
 use Rattle.std.proofs.Math.Seq.{take-append_seam}
 use Rattle.std.proofs.lemmas.Map.Keys.{IsStrictlyIncreasing-from_distinct}
 use Rattle.std.proofs.lemmas.Bool.{eq-eqb}
-use Rattle.std.proofs.lemmas.List.{length-map, get_or-map}
+use Rattle.std.proofs.lemmas.List.{length-map, get_or-map, get_or_default}
+use Rattle.std.proofs.lemmas.List.Elements.{All-head, All-tail}
 use Rattle.std.proofs.lemmas.List.Sorted.{length_permutation}
 use Rattle.kern_tree.specs.declared.kernel.Kernel.{Kernel}
 use Rattle.pf_geom.specs.declared.edge.Edge.{Edge}
+use Rattle.pf_geom.specs.Position.{Position}
 use Rattle.pf_model.specs.declared.limits.TheConstants.{MOST_GROUP, MOST_PARTICLES}
 use Rattle.pf_model.specs.Criterion.{Criterion}
-use Rattle.pf_model.specs.Division.{Division, IsDivision, rank_count}
+use Rattle.pf_model.specs.Division.{Division}
+use Rattle.pf_model.specs.Domains.{owner, owner_by, cuts_for}
 use Rattle.pf_model.specs.Order.{first_some}
 use Rattle.pf_model.specs.Particle.{Particle}
 use Rattle.pf_model.specs.IdLaws.{OrdersByIdAreOne}
 use Rattle.pf_model.specs.ParticleLaws.{DistinctIdsIgnoreOrder}
-use Rattle.pf_model.specs.Particles.{AreBodies, HaveDistinctIds, by_id}
+use Rattle.pf_model.specs.Particles.{AreBodies, by_id}
 use Rattle.group_lists.specs.Whole.{GroupList}
 use Rattle.force_phase.specs.Phase.{bodies_in}
 use Rattle.run_model.specs.declared.step_text.BodyLine.{BodyLine}
@@ -25,8 +29,7 @@ use Rattle.run_model.specs.declared.step_text.StepText.{StepText}
 use Rattle.run_model.specs.Force.{acc_place, first_given, force_row}
 use Rattle.run_model.specs.Setup.{Setup}
 use Rattle.run_model.specs.Run.{WithForces, State, Stop, as_built, list_for, with_forces, moved, moved_body, kicked_again, is_build, lists_fault, forces_fault, move_fault, kick_fault, fault_at_start, fault_after, state_at_start, state_after, unless_stopped, state, first_fault}
-use Rattle.run_model.specs.RunLaws.{IsLoneBuild, LoneRanksBuildSo}
-use Rattle.run_model.specs.Text.{told, ranks, rank_counts, body_row}
+use Rattle.run_model.specs.Text.{told, ranks as all_ranks, rank_counts, body_row}
 use Rattle.rank_step.specs.declared.fault.StepFault.{StepFault}
 use Rattle.rank_step.specs.declared.fault.StepFault.TheVariants as faults
 use Rattle.rank_step.specs.Answers.{StopsAt, StopsBy}
@@ -34,12 +37,14 @@ use Rattle.rank_step.specs.Build.{AreListsOf, IsTooMany}
 use Rattle.rank_step.specs.declared.motion.Motion.{Motion}
 use Rattle.rank_step.specs.Moves.{MovesBy}
 use Rattle.rank_step.specs.Taken.{Takes, TakesBy, TakesFrom, taking_fault, without_forces}
-use Rattle.rank_step.specs.Told.{Reaches, own_row, own_text}
+use Rattle.rank_step.specs.Told.{Reaches, row_with, text_with}
+use Rattle.multisection.specs.Regions.{Regions, regions_of}
 use Rattle.exchange.specs.States.{Holding}
 use Rattle.rank_step.specs.Ranks.{HaveTogether, held_now, with_owners}
 use Rattle.rank_step.specs.World.{Standing, IsStanding, IsSound, IsBefore, AreRanksBefore, StandsFor, Steps}
-use Rattle.rank_step.proofs.NowLemmas.{together_now}
-use Rattle.rank_step.proofs.OrderLemmas.{ascend, by_id-ascending, distinct-ascending}
+use Rattle.rank_step.proofs.DealLemmas.{id_order}
+use Rattle.rank_step.proofs.NowLemmas.{finds, together_now}
+use Rattle.rank_step.proofs.OrderLemmas.{Ascend, ascend, by_id-ascending, distinct-ascending}
 
 -- ---- one fault after another
 
@@ -70,12 +75,12 @@ same_stops a b fault e h = subst (λ (o : Option Stop). StopsAt o fault) e h
 
 -- ---- particles
 
--- a run by these on one rank
-unfoldable pub run_by : Kernel → Criterion → ℕ → ℕ → Setup
-run_by k t limit dt = record {
+-- a run by these
+unfoldable pub run_by : Kernel → Division → Criterion → ℕ → ℕ → Setup
+run_by k g t limit dt = record {
   kernel = k;
   particles = [];
-  grid = record { nx = 1; ny = 1; nz = 1 };
+  grid = g;
   theta = t;
   group = limit;
   steps = 0;
@@ -89,8 +94,8 @@ lists_have_bodies keep u now lists are h = record {
   distinct = keep now (bodies_in lists) are.all h.distinct;
 }
 
-pub takes_from : (u : Setup) (k : Kernel) (t : Criterion) (limit : ℕ) (now : List Particle) (lists : List GroupList) → TakesBy k t limit u → (edge : Edge) → edge ≡ t.edge → AreListsOf u now lists → TakesFrom k edge now lists u
-takes_from u k t limit now lists takes edge same are = record {
+pub takes_from : (u : Setup) (k : Kernel) (g : Division) (t : Criterion) (limit : ℕ) (now : List Particle) (lists : List GroupList) → TakesBy k g t limit u → (edge : Edge) → edge ≡ t.edge → AreListsOf u now lists → TakesFrom k edge now lists u
+takes_from u k g t limit now lists takes edge same are = record {
   kernel = takes.kernel;
   edge = ap (λ (c : Criterion). c.edge) takes.builds.theta ∙ sym same;
   lists = are;
@@ -121,6 +126,46 @@ fresh_ids now = forced_ids (λ p. []) now
 pub fresh_bodies : (now : List Particle) → map (λ (b : WithForces). b.body) (map without_forces now) ≡ now
 fresh_bodies [] = refl
 fresh_bodies (p ∷ ps) = ap (λ rest. p ∷ rest) (fresh_bodies ps)
+
+-- where particles are
+body_place : WithForces → ℕ × Position
+body_place b = (b.body.id, b.body.at)
+
+particle_place : Particle → ℕ × Position
+particle_place p = (p.id, p.at)
+
+forced_places : (f : Particle → List ℤ) (now : List Particle) → map body_place (map (λ (p : Particle). record { body = p; forces = f p }) now) ≡ map particle_place now
+unfolding body_place particle_place
+forced_places f [] = refl
+forced_places f (p ∷ ps) = ap {A = List (ℕ × Position)} (λ rest. (p.id, p.at) ∷ rest) (forced_places f ps)
+
+with_forces_places : (u : Setup) (now : List Particle) → map body_place (with_forces u now now) ≡ map particle_place now
+with_forces_places u now = forced_places (λ i. force_row u.theta.edge u.kernel (list_for u now now i) i) now
+
+kicked_places : (u : Setup) (bodies : List WithForces) → map body_place (map (kicked_again u) bodies) ≡ map body_place bodies
+unfolding body_place
+kicked_places u [] = refl
+kicked_places u (b ∷ bs) = ap {A = List (ℕ × Position)} (λ rest. (b.body.id, b.body.at) ∷ rest) (kicked_places u bs)
+
+-- particles of a build that are where they were
+stand_still : (built : List Particle) → Ascend built → (bodies : List WithForces) → map body_place bodies ≡ map particle_place built → All (λ b. (as_built built b.body).at ≡ b.body.at) bodies
+unfolding body_place particle_place
+stand_still built up bodies same k d within =
+    let b = get_or bodies k d in
+    let nowhere : ℕ × Position = (0, record { x = 0; y = 0; z = 0 }) in
+    let count = ap length same in
+    let long = length-map bodies body_place in
+    let longer = length-map built particle_place in
+    let here : k < length built = omega arith in
+    let p = get_or built k b.body in
+    let place : (b.body.id, b.body.at) ≡ (p.id, p.at) =
+    sym (get_or-map body_place bodies k d nowhere within) ∙ ap (λ (l : List (ℕ × Position)). get_or l k nowhere) same ∙ get_or-map particle_place built k b.body nowhere here in
+    let found = finds b.body.id k built b.body
+    (λ i e below. (let less = id_order built up i k e below here in
+    let there : (get_or built k e).id ≡ p.id = ap (λ (q : Particle). q.id) (get_or_default built k e b.body here) in
+    let id : b.body.id ≡ p.id = ap (λ (v : ℕ × Position). v.0) place in
+    omega arith)) here (sym (ap (λ (v : ℕ × Position). v.0) place)) in
+    ap (λ (o : Option Particle). (unwrap_or o b.body).at) found ∙ sym (ap (λ (v : ℕ × Position). v.1) place)
 
 -- particles with the ids of those of a world
 module _ (group : ℕ) (bodies : List WithForces) (standing : IsStanding group bodies) where
@@ -157,7 +202,6 @@ pub sound_after : (g : Division) (group : ℕ) (bodies : List WithForces) (ranks
     (after : List WithForces) → map (λ b. b.body.id) after ≡ map (λ p. p.id) now → (to : List Holding) → HaveTogether g now to → IsSound g group after to
 sound_after g group bodies ranks sound now ids after same to together = record {
   standing = stands_on group bodies sound.standing after (same ∙ ids);
-  one_rank = sound.one_rank;
   as_built = record { built = now; same = sym same; together = together };
 }
 
@@ -178,17 +222,19 @@ start_stops u read fault e h = same_stops (taking_fault u read) (fault_at_start 
 state_from : Setup → List Particle → State
 state_from u read = record { bodies = with_forces u read read; built = read }
 
-pub start_reaches : (u : Setup) (read : List Particle) (bodies : List WithForces) (line : RankLine) (ranks : List Holding) → read ≡ by_id u.particles → HaveDistinctIds read → Takes u read bodies line ranks → Reaches u 0 bodies line ranks
+pub start_reaches : (u : Setup) (read : List Particle) (bodies : List WithForces) (lines : List RankLine) (d : Regions) (ranks : List Holding) → read ≡ by_id u.particles → Ascend read → Takes u read bodies lines d ranks →
+    Reaches u 0 bodies lines d ranks
 unfolding state first_fault state_from
-start_reaches u read bodies line ranks e distinct takes =
+start_reaches u read bodies lines d ranks e up takes =
     let no_fault : fault_at_start u ≡ None = ap (taking_fault u) (sym e) ∙ takes.no_fault in
     record {
       no_fault = no_fault;
       built = read;
       state =
           ap (λ o. unless_stopped o (state_at_start u)) no_fault ∙ ap (λ r. Some (state_from u r)) (sym e) ∙ ap (λ (bs : List WithForces). Some (record { bodies = bs; built = read })) (sym takes.forces);
-      distinct = distinct;
+      unmoved = stand_still read up bodies (ap (map body_place) takes.forces ∙ with_forces_places u read);
       counts = takes.counts;
+      domains = takes.domains;
       owners = takes.owners;
     }
 
@@ -269,9 +315,10 @@ module _ (u : Setup) (due : ℕ) (bodies : List WithForces) (once : u.reuse ≡ 
       pub kick_stops : (fault : StepFault) → StopsAt (first_given (kick_fault u) (with_forces u now now)) fault → StopsBy u due fault
       kick_stops fault h = same_stops _ (first_fault u due) fault first_from (stops_later (taking_fault u now) (first_given (kick_fault u) (with_forces u now now)) fault takes h)
 
-      pub next_reaches : (after : List WithForces) (line : RankLine) (ranks : List Holding) → first_given (kick_fault u) (with_forces u now now) ≡ None → HaveDistinctIds now → after ≡ map (kicked_again u) (with_forces u now now) → line ≡ rank_counts u now 0 → ranks ≡ with_owners u.grid now → Reaches u due after line ranks
+      pub next_reaches : (after : List WithForces) (lines : List RankLine) (d : Regions) (ranks : List Holding) → first_given (kick_fault u) (with_forces u now now) ≡ None → Ascend now → after ≡ map (kicked_again u) (with_forces u now now) →
+          lines ≡ map (rank_counts u now) (all_ranks u) → d ≡ regions_of u.grid now → ranks ≡ with_owners u.grid now → Reaches u due after lines d ranks
       unfolding rebuilt_state
-      next_reaches after line ranks kicks distinct is counts owners =
+      next_reaches after lines d ranks kicks up is counts domains owners =
           let none = none_of_both (taking_fault u now) (first_given (kick_fault u) (with_forces u now now)) takes kicks in
           record {
             no_fault = sym first_from ∙ none;
@@ -280,8 +327,9 @@ module _ (u : Setup) (due : ℕ) (bodies : List WithForces) (once : u.reuse ≡ 
                 next_state u due bodies once later before (rebuilt_from ∙ none)
                 ∙ ap (λ (js : List Particle). Some (record { bodies = map (kicked_again u) (with_forces u js js); built = js })) (sym now_is)
                 ∙ ap (λ (bs : List WithForces). Some (record { bodies = bs; built = now })) (sym is);
-            distinct = distinct;
+            unmoved = stand_still now up after (ap (map body_place) is ∙ kicked_places u (with_forces u now now) ∙ with_forces_places u now);
             counts = counts;
+            domains = domains;
             owners = owners;
           }
 
@@ -297,15 +345,18 @@ sound_of inside w view h = subst (λ (v : Standing). IsSound v.grid v.group v.bo
 abbrev pub ids_of : Standing → List ℕ
 ids_of w = map (λ b. b.body.id) w.bodies
 
-pub takes_within : (inside w : Standing) (u : Setup) → inside ≡ w → TakesBy w.kernel w.theta w.group u → TakesBy inside.kernel inside.theta inside.group u
-takes_within inside w u view h = subst (λ (v : Standing). TakesBy v.kernel v.theta v.group u) (sym view) h
+pub due_within : (inside w : Standing) (due : ℕ) → inside ≡ w → w.due ≡ due → inside.due ≡ due
+due_within inside w due view e = ap (λ (v : Standing). v.due) view ∙ e
 
-pub takes_by : (w : Standing) (u : Setup) → StandsFor w u → TakesBy w.kernel w.theta w.group u
-takes_by w u h = record { kernel = h.kernel; builds = record { theta = h.theta; group = h.group; one_rank = h.one_rank } }
+pub takes_within : (inside w : Standing) (u : Setup) → inside ≡ w → TakesBy w.kernel w.grid w.theta w.group u → TakesBy inside.kernel inside.grid inside.theta inside.group u
+takes_within inside w u view h = subst (λ (v : Standing). TakesBy v.kernel v.grid v.theta v.group u) (sym view) h
 
-pub run_takes : (k : Kernel) (t : Criterion) (limit dt : ℕ) → TakesBy k t limit (run_by k t limit dt)
+pub takes_by : (w : Standing) (u : Setup) → StandsFor w u → TakesBy w.kernel w.grid w.theta w.group u
+takes_by w u h = record { kernel = h.kernel; builds = record { grid = h.grid; theta = h.theta; group = h.group } }
+
+pub run_takes : (k : Kernel) (g : Division) (t : Criterion) (limit dt : ℕ) → TakesBy k g t limit (run_by k g t limit dt)
 unfolding run_by
-run_takes k t limit dt = record { kernel = refl; builds = record { theta = refl; group = refl; one_rank = refl } }
+run_takes k g t limit dt = record { kernel = refl; builds = record { grid = refl; theta = refl; group = refl } }
 
 pub read_from : (now read : List Particle) (lent bodies : List WithForces) → now ≡ read → read ≡ map (λ b. b.body) lent → lent ≡ bodies → now ≡ map (λ b. b.body) bodies
 read_from now read lent bodies same is of = same ∙ is ∙ ap (map (λ (b : WithForces). b.body)) of
@@ -313,8 +364,8 @@ read_from now read lent bodies same is of = same ∙ is ∙ ap (map (λ (b : Wit
 pub moved_from : (u : Setup) (now to : List Particle) (lent bodies : List WithForces) → now ≡ to → to ≡ map (moved_body u) lent → lent ≡ bodies → now ≡ map (moved_body u) bodies
 moved_from u now to lent bodies same is of = same ∙ is ∙ ap (map (moved_body u)) of
 
-pub takes_ids : (u : Setup) (now : List Particle) (after : List WithForces) (line : RankLine) (ranks : List Holding) → Takes u now after line ranks → map (λ (b : WithForces). b.body.id) after ≡ map (λ (p : Particle). p.id) now
-takes_ids u now after line ranks takes = ap (map (λ (b : WithForces). b.body.id)) takes.forces ∙ with_forces_ids u now
+pub takes_ids : (u : Setup) (now : List Particle) (after : List WithForces) (lines : List RankLine) (d : Regions) (ranks : List Holding) → Takes u now after lines d ranks → map (λ (b : WithForces). b.body.id) after ≡ map (λ (p : Particle). p.id) now
+takes_ids u now after lines d ranks takes = ap (map (λ (b : WithForces). b.body.id)) takes.forces ∙ with_forces_ids u now
 
 read_at_start : (u : Setup) (due : ℕ) (bodies : List WithForces) → due ≡ 0 → IsBefore u due bodies → map (λ b. b.body) bodies ≡ by_id u.particles
 read_at_start u zero bodies start before = before
@@ -327,8 +378,8 @@ module _ (w : Standing) (u : Setup) (stands : StandsFor w u) (start : w.due ≡ 
   pub first_stops : (fault : StepFault) → StopsAt (taking_fault u read) fault → StopsBy u 0 fault
   first_stops fault h = start_stops u read fault as_read h
 
-  pub first_reaches : HaveDistinctIds read → (after : List WithForces) (line : RankLine) (ranks : List Holding) → Takes u read after line ranks → Reaches u 0 after line ranks
-  first_reaches distinct after line ranks takes = start_reaches u read after line ranks as_read distinct takes
+  pub first_reaches : Ascend read → (after : List WithForces) (lines : List RankLine) (d : Regions) (ranks : List Holding) → Takes u read after lines d ranks → Reaches u 0 after lines d ranks
+  first_reaches up after lines d ranks takes = start_reaches u read after lines d ranks as_read up takes
 
 pub moves_by : (m : Motion) (k : Kernel) (t : Criterion) (dt : ℕ) → m.acc_place ≡ acc_place k → m.edge ≡ t.edge → m.dt ≡ dt → (u : Setup) → u.kernel ≡ k → u.theta ≡ t → u.dt ≡ dt → MovesBy m u
 moves_by m k t dt place at_edge timed u kernel theta step = record {
@@ -337,12 +388,13 @@ moves_by m k t dt place at_edge timed u kernel theta step = record {
   dt = step ∙ sym timed;
 }
 
-pub takes_in : (inside w : Standing) → inside ≡ w → (dt : ℕ) → TakesBy w.kernel w.theta w.group (run_by inside.kernel inside.theta inside.group dt)
-takes_in inside w view dt = subst (λ (v : Standing). TakesBy v.kernel v.theta v.group (run_by inside.kernel inside.theta inside.group dt)) view (run_takes inside.kernel inside.theta inside.group dt)
+pub takes_in : (inside w : Standing) → inside ≡ w → (dt : ℕ) → TakesBy w.kernel w.grid w.theta w.group (run_by inside.kernel inside.grid inside.theta inside.group dt)
+takes_in inside w view dt =
+    subst (λ (v : Standing). TakesBy v.kernel v.grid v.theta v.group (run_by inside.kernel inside.grid inside.theta inside.group dt)) view (run_takes inside.kernel inside.grid inside.theta inside.group dt)
 
-pub run_moves : (m : Motion) (k : Kernel) (t : Criterion) (limit dt : ℕ) → m.acc_place ≡ acc_place k → m.edge ≡ t.edge → m.dt ≡ dt → MovesBy m (run_by k t limit dt)
+pub run_moves : (m : Motion) (k : Kernel) (g : Division) (t : Criterion) (limit dt : ℕ) → m.acc_place ≡ acc_place k → m.edge ≡ t.edge → m.dt ≡ dt → MovesBy m (run_by k g t limit dt)
 unfolding run_by
-run_moves m k t limit dt place at_edge timed = moves_by m k t dt place at_edge timed (run_by k t limit dt) refl refl refl
+run_moves m k g t limit dt place at_edge timed = moves_by m k t dt place at_edge timed (run_by k g t limit dt) refl refl refl
 
 pub map_moved_ids : (u : Setup) (bodies : List WithForces) (now : List Particle) → now ≡ map (moved_body u) bodies → map (λ (p : Particle). p.id) now ≡ map (λ (b : WithForces). b.body.id) bodies
 map_moved_ids u bodies now e = ap (map (λ (p : Particle). p.id)) e ∙ moved_ids u bodies
@@ -383,11 +435,10 @@ module _ (keep : DistinctIdsIgnoreOrder) (read sorted : List Particle) (particle
     ascending = subst IsStrictlyIncreasing (sym (ap (map (λ (b : WithForces). b.body.id)) is ∙ fresh_ids sorted)) sorted_ascend;
   }
 
-  pub opened_sound : (g : Division) (group : ℕ) → 1 ≤ group → group ≤ MOST_GROUP → g ≡ record { nx = 1; ny = 1; nz = 1 } → (bodies : List WithForces) → bodies ≡ map without_forces sorted → (ranks : List Holding) →
+  pub opened_sound : (g : Division) (group : ℕ) → 1 ≤ group → group ≤ MOST_GROUP → (bodies : List WithForces) → bodies ≡ map without_forces sorted → (ranks : List Holding) →
       HaveTogether g sorted ranks → IsSound g group bodies ranks
-  opened_sound g group some most one_rank bodies is ranks together = record {
+  opened_sound g group some most bodies is ranks together = record {
     standing = opened_stands group some most bodies is;
-    one_rank = one_rank;
     as_built = record { built = sorted; same = sym (ap (map (λ (b : WithForces). b.body.id)) is ∙ fresh_ids sorted); together = together };
   }
 
@@ -403,37 +454,36 @@ module _ (keep : DistinctIdsIgnoreOrder) (read sorted : List Particle) (particle
 row_by : WithForces → ℕ → BodyLine
 row_by b owner = record { id = b.body.id; owner = owner; at = b.body.at; vel = b.body.vel; forces = b.forces }
 
-rows_are : (u : Setup) (built : List Particle) → IsLoneBuild u built → (bodies : List WithForces) → map (body_row u built) bodies ≡ map own_row bodies
-unfolding body_row row_by
-rows_are u built lone [] = refl
-rows_are u built lone (b ∷ bs) =
-    ap (λ owner. row_by b owner ∷ map (body_row u built) bs) (lone.owners (as_built built b.body).at) ∙ ap (λ rest. own_row b ∷ rest) (rows_are u built lone bs)
+rows_are : (u : Setup) (built : List Particle) (bodies : List WithForces) → All (λ b. (as_built built b.body).at ≡ b.body.at) bodies → map (body_row u built) bodies ≡ map (row_with (cuts_for u.grid built)) bodies
+unfolding body_row row_by owner
+rows_are u built [] still = refl
+rows_are u built (b ∷ bs) still =
+    let here = All-head (λ (v : WithForces). (as_built built v.body).at ≡ v.body.at) b bs still in
+    let rest = rows_are u built bs (All-tail (λ (v : WithForces). (as_built built v.body).at ≡ v.body.at) b bs still) in
+    (λ i. row_by b (owner_by (cuts_for u.grid built) (here i)) ∷ rest i)
 
-text_with : ℕ → List RankLine → List BodyLine → StepText
-text_with s lines rows = record { step = s; ranks = lines; rows = rows }
+text_by : ℕ → List RankLine → List BodyLine → StepText
+text_by s lines rows = record { step = s; ranks = lines; rows = rows }
 
-told_is : LoneRanksBuildSo → (u : Setup) (s : ℕ) (bodies : List WithForces) (line : RankLine) (ranks : List Holding) → u.grid ≡ record { nx = 1; ny = 1; nz = 1 } → Reaches u s bodies line ranks → option_map (told u s) (state u s) ≡ Some (own_text s line bodies)
-unfolding text_with
-told_is law u s bodies line have one reaches =
-    let division : IsDivision u.grid = subst IsDivision (sym one) (record { some_x = omega arith; some_y = omega arith; some_z = omega arith; few = omega arith }) in
-    let lone = law u reaches.built division (ap rank_count one) reaches.distinct in
-    let lines : map (rank_counts u reaches.built) (ranks u) ≡ line ∷ [] = ap (map (rank_counts u reaches.built)) lone.ranks ∙ ap (λ (l : RankLine). l ∷ []) (sym reaches.counts) in
+told_is : (u : Setup) (s : ℕ) (bodies : List WithForces) (lines : List RankLine) (d : Regions) (ranks : List Holding) → Reaches u s bodies lines d ranks → option_map (told u s) (state u s) ≡ Some (text_with s lines d.cuts bodies)
+unfolding text_by
+told_is u s bodies lines d ranks reaches =
     ap (option_map (told u s)) reaches.state
-    ∙ ap (λ (ls : List RankLine). Some (text_with s ls (map (body_row u reaches.built) bodies))) lines
-    ∙ ap (λ (rs : List BodyLine). Some (text_with s (line ∷ []) rs)) (rows_are u reaches.built lone bodies)
+    ∙ (λ i. Some (text_by s (sym reaches.counts i) (rows_are u reaches.built bodies reaches.unmoved i)))
+    ∙ ap (λ (r : Regions). Some (text_by s lines (map (row_with r.cuts) bodies))) (sym reaches.domains)
 
-before_next : (u : Setup) (s n : ℕ) (bodies : List WithForces) (line : RankLine) (ranks : List Holding) → n ≡ suc s → Reaches u s bodies line ranks → IsBefore u n bodies
-before_next u s n bodies line ranks e reaches = subst (λ (k : ℕ). IsBefore u k bodies) (sym e) (reaches.built, reaches.state)
+before_next : (u : Setup) (s n : ℕ) (bodies : List WithForces) (lines : List RankLine) (d : Regions) (ranks : List Holding) → n ≡ suc s → Reaches u s bodies lines d ranks → IsBefore u n bodies
+before_next u s n bodies lines d ranks e reaches = subst (λ (k : ℕ). IsBefore u k bodies) (sym e) (reaches.built, reaches.state)
 
-ranks_next : (u : Setup) (s n : ℕ) (bodies : List WithForces) (line : RankLine) (ranks : List Holding) → n ≡ suc s → Reaches u s bodies line ranks → AreRanksBefore u n ranks
-ranks_next u s n bodies line ranks e reaches =
+ranks_next : (u : Setup) (s n : ℕ) (bodies : List WithForces) (lines : List RankLine) (d : Regions) (ranks : List Holding) → n ≡ suc s → Reaches u s bodies lines d ranks → AreRanksBefore u n ranks
+ranks_next u s n bodies lines d ranks e reaches =
     subst (λ (k : ℕ). AreRanksBefore u k ranks) (sym e) (record { bodies = bodies; built = reaches.built }, reaches.state, reaches.owners)
 
-steps_from : LoneRanksBuildSo → (w : Standing) (u : Setup) (bodies : List WithForces) (line : RankLine) (ranks : List Holding) (text : StepText) → StandsFor w u → Reaches u w.due bodies line ranks → text ≡ own_text w.due line bodies →
+steps_from : (w : Standing) (u : Setup) (bodies : List WithForces) (lines : List RankLine) (d : Regions) (ranks : List Holding) (text : StepText) → StandsFor w u → Reaches u w.due bodies lines d ranks → text ≡ text_with w.due lines d.cuts bodies →
     Steps u w.due (record w { due = w.due + 1; bodies = bodies; ranks = ranks }) text
-steps_from law w u bodies line ranks text stands reaches is = record {
+steps_from w u bodies lines d ranks text stands reaches is = record {
   no_fault = reaches.no_fault;
-  told = told_is law u w.due bodies line ranks stands.one_rank reaches ∙ ap Some (sym is);
+  told = told_is u w.due bodies lines d ranks reaches ∙ ap Some (sym is);
   due = add-one w.due;
   stands = record {
     kernel = stands.kernel;
@@ -441,16 +491,15 @@ steps_from law w u bodies line ranks text stands reaches is = record {
     theta = stands.theta;
     group = stands.group;
     dt = stands.dt;
-    one_rank = stands.one_rank;
     rebuilt = stands.rebuilt;
     particles = stands.particles;
-    before = before_next u w.due (w.due + 1) bodies line ranks (add-one w.due) reaches;
-    ranks = ranks_next u w.due (w.due + 1) bodies line ranks (add-one w.due) reaches;
+    before = before_next u w.due (w.due + 1) bodies lines d ranks (add-one w.due) reaches;
+    ranks = ranks_next u w.due (w.due + 1) bodies lines d ranks (add-one w.due) reaches;
   };
 }
 
-pub steps_on : LoneRanksBuildSo → (inside w : Standing) (u : Setup) (lent bodies : List WithForces) (line : RankLine) (ranks : List Holding) (text : StepText) → inside ≡ w → lent ≡ bodies → text ≡ own_text inside.due line lent → StandsFor w u →
-    Reaches u w.due bodies line ranks → Steps u w.due (record inside { due = inside.due + 1; bodies = bodies; ranks = ranks }) text
-steps_on law inside w u lent bodies line ranks text view same is stands reaches =
-    let now : text ≡ own_text w.due line bodies = is ∙ ap (own_text inside.due line) same ∙ ap (λ (v : Standing). own_text v.due line bodies) view in
-    subst (λ (v : Standing). Steps u w.due (record v { due = v.due + 1; bodies = bodies; ranks = ranks }) text) (sym view) (steps_from law w u bodies line ranks text stands reaches now)
+pub steps_on : (inside w : Standing) (u : Setup) (lent bodies : List WithForces) (lines : List RankLine) (d : Regions) (ranks : List Holding) (text : StepText) → inside ≡ w → lent ≡ bodies → text ≡ text_with inside.due lines d.cuts lent → StandsFor w u →
+    Reaches u w.due bodies lines d ranks → Steps u w.due (record inside { due = inside.due + 1; bodies = bodies; ranks = ranks }) text
+steps_on inside w u lent bodies lines d ranks text view same is stands reaches =
+    let now : text ≡ text_with w.due lines d.cuts bodies = is ∙ ap (text_with inside.due lines d.cuts) same ∙ ap (λ (v : Standing). text_with v.due lines d.cuts bodies) view in
+    subst (λ (v : Standing). Steps u w.due (record v { due = v.due + 1; bodies = bodies; ranks = ranks }) text) (sym view) (steps_from w u bodies lines d ranks text stands reaches now)

@@ -1,15 +1,12 @@
 -- The build of a step: what it follows, and what it gives.
-use Rattle.std.specs.Prelude.{◌≡◌, ◌<◌, ℕ, List, length, map, flat_map, All, Some, IsPermutation, slice_index_or}
+use Rattle.std.specs.Prelude.{◌≡◌, ℕ, List, length, map, flat_map, All, Some, IsPermutation}
 use Rattle.pf_model.specs.declared.entry.Entry.{Entry}
 use Rattle.pf_model.specs.Criterion.{Criterion}
-use Rattle.pf_model.specs.Division.{Division, rank_count}
-use Rattle.pf_model.specs.Domains.{particles_of}
+use Rattle.pf_model.specs.Division.{Division}
 use Rattle.pf_model.specs.Particle.{Particle}
-use Rattle.pf_model.specs.Particles.{by_id}
 use Rattle.morton_tree.specs.declared.group.Group.{Group}
 use Rattle.morton_tree.specs.Spans.{FollowOneAnother}
 use Rattle.morton_tree.specs.Groups.{groups_of, IsGroup}
-use Rattle.group_lists.specs.Gathering.{Gathering, own_gathering}
 use Rattle.group_lists.specs.Whole.{GroupList}
 use Rattle.run_model.specs.Setup.{Setup}
 use Rattle.run_model.specs.Run.{list_for, lists_fault}
@@ -19,11 +16,11 @@ use Rattle.run_model.specs.Text.{cells_in, particles_within}
 use Rattle.rank_step.specs.declared.fault.StepFault.{StepFault}
 use Rattle.rank_step.specs.declared.fault.StepFault.TheVariants.{Numeric, Lists, Memory}
 
--- a run that builds by this criterion and this limit of a group, on one rank
-pub record BuildsBy (t : Criterion) (limit : ℕ) (u : Setup) : Type 0 where
+-- a run that builds on this grid, by this criterion and this limit of a group
+pub record BuildsBy (g : Division) (t : Criterion) (limit : ℕ) (u : Setup) : Type 0 where
+  pub grid : u.grid ≡ g
   pub theta : u.theta ≡ t
   pub group : u.group ≡ limit
-  pub one_rank : u.grid ≡ record { nx = 1; ny = 1; nz = 1 }
 
 -- the groups of a build with their lists: together they have each particle once, and a group's list is that of each
 -- of its particles
@@ -41,13 +38,13 @@ IsTooMany u built Memory = Unit {0}
 abbrev pub all_entries : List GroupList → List Entry
 all_entries lists = flat_map (λ l. l.entries) lists
 
--- what a rank that has so many particles, and receives none, tells of its lists
-abbrev pub counts_of : ℕ → List GroupList → RankLine
-counts_of particles lists = record {
+-- what a rank that has so many particles, and received so many cells and particles, tells of its lists
+abbrev pub counts_of : ℕ → ℕ → ℕ → List GroupList → RankLine
+counts_of particles cells parts lists = record {
   particles = particles;
   groups = length lists;
-  cells = 0;
-  parts = 0;
+  cells = cells;
+  parts = parts;
   listcells = cells_in (all_entries lists);
   listparts = particles_within (all_entries lists);
 }
@@ -58,18 +55,3 @@ pub record AreGroupsOf (limit : ℕ) (js own : List Particle) (groups : List Gro
   pub value : groups ≡ groups_of limit own
   pub in_turn : FollowOneAnother 0 (length own) (map (λ g. g.span) groups)
   pub each : All (IsGroup limit own) groups
-
--- the gather of this rank, which has these particles, before any other is absorbed
-pub record IsGatherOf (rank limit : ℕ) (js : List Particle) (gather : Gathering) : Type 0 where
-  pub value : gather ≡ own_gathering rank gather.own gather.groups
-  pub groups : AreGroupsOf limit js gather.own gather.groups
-
--- the gathers of all ranks at a build, by number, each of the particles that its rank owns
-pub record AreGathers (limit : ℕ) (g : Division) (js : List Particle) (gathers : List Gathering) : Type 0 where
-  pub counted : length gathers ≡ rank_count g
-  pub each : (rank : ℕ) (d : Gathering) → rank < rank_count g
-      → IsGatherOf rank limit (by_id (particles_of g js rank)) (slice_index_or gathers rank d)
-
--- the gather of a rank that has all particles
-abbrev pub IsGatherOfAll : ℕ → List Particle → Gathering → Type 0
-IsGatherOfAll limit js gather = IsGatherOf 0 limit js gather

@@ -1,6 +1,7 @@
 pub mod Ranks
 pub mod Phases
 pub mod Build
+pub mod Trees
 pub mod Answers
 pub mod Moves
 pub mod Taken

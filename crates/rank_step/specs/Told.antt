@@ -1,30 +1,39 @@
--- What a step tells where one rank owns all particles.
-use Rattle.std.specs.Prelude.{◌≡◌, ℕ, List, [], ◌∷◌, map, Some, None}
+-- What a step tells.
+use Rattle.std.specs.Prelude.{◌≡◌, ℕ, List, map, All, Some, None}
+use Rattle.pf_model.specs.Domains.{Multisection, owner_by}
 use Rattle.pf_model.specs.Particle.{Particle}
-use Rattle.pf_model.specs.Particles.{HaveDistinctIds}
 use Rattle.run_model.specs.declared.step_text.BodyLine.{BodyLine}
 use Rattle.run_model.specs.declared.step_text.RankLine.{RankLine}
 use Rattle.run_model.specs.declared.step_text.StepText.{StepText}
 use Rattle.run_model.specs.Setup.{Setup}
-use Rattle.run_model.specs.Run.{WithForces, state, first_fault}
-use Rattle.run_model.specs.Text.{rank_counts}
+use Rattle.run_model.specs.Run.{WithForces, as_built, state, first_fault}
+use Rattle.run_model.specs.Text.{ranks as all_ranks, rank_counts}
 use Rattle.exchange.specs.States.{Holding}
+use Rattle.multisection.specs.Regions.{Regions, regions_of}
 use Rattle.rank_step.specs.Ranks.{with_owners}
 
--- the line of a particle that the first rank owns
-abbrev pub own_row : WithForces → BodyLine
-own_row b = record { id = b.body.id; owner = 0; at = b.body.at; vel = b.body.vel; forces = b.forces }
+-- the line of a particle that is where it was at the build, of which these are the cuts
+abbrev pub row_with : Multisection → WithForces → BodyLine
+row_with s b = record {
+  id = b.body.id;
+  owner = owner_by s b.body.at;
+  at = b.body.at;
+  vel = b.body.vel;
+  forces = b.forces;
+}
 
--- what a step tells of these particles
-abbrev pub own_text : ℕ → RankLine → List WithForces → StepText
-own_text s counts bodies = record { step = s; ranks = counts ∷ []; rows = map own_row bodies }
+-- what a step tells of ranks and these particles
+abbrev pub text_with : ℕ → List RankLine → Multisection → List WithForces → StepText
+text_with s counts cuts bodies = record { step = s; ranks = counts; rows = map (row_with cuts) bodies }
 
--- the step has no fault, and its state has these particles, these counts of a build of its own, and these ranks
-pub record Reaches (u : Setup) (s : ℕ) (bodies : List WithForces) (line : RankLine) (ranks : List Holding)
-    : Type 0 where
+-- the step has no fault, and its state has these particles, which are where they were at a build of its own, of which
+-- these are the counts, the domains and the ranks
+pub record Reaches (u : Setup) (s : ℕ) (bodies : List WithForces) (lines : List RankLine) (d : Regions)
+    (ranks : List Holding) : Type 0 where
   pub no_fault : first_fault u s ≡ None
   pub built : List Particle
   pub state : state u s ≡ Some (record { bodies = bodies; built = built })
-  pub distinct : HaveDistinctIds built
-  pub counts : line ≡ rank_counts u built 0
+  pub unmoved : All (λ b. (as_built built b.body).at ≡ b.body.at) bodies
+  pub counts : lines ≡ map (rank_counts u built) (all_ranks u)
+  pub domains : d ≡ regions_of u.grid built
   pub owners : ranks ≡ with_owners u.grid built

@@ -42,7 +42,6 @@ pub record HaveAsBuilt (g : Division) (bodies : List WithForces) (ranks : List H
 -- what each world keeps
 pub record IsSound (g : Division) (group : ℕ) (bodies : List WithForces) (ranks : List Holding) : Type 0 where
   pub standing : IsStanding group bodies
-  pub one_rank : g ≡ record { nx = 1; ny = 1; nz = 1 }
   pub as_built : HaveAsBuilt g bodies ranks
 
 -- these are the particles of the run before this step: as they were read, or as the step before left them
@@ -55,14 +54,13 @@ abbrev pub AreRanksBefore : Setup → ℕ → List Holding → Type 0
 AreRanksBefore u zero ranks = ranks ≡ first_ranks u.grid (by_id u.particles)
 AreRanksBefore u (suc s) ranks = (now : State) × (state u s ≡ Some now) × (ranks ≡ with_owners u.grid now.built)
 
--- the world is that of this run, which has one rank and makes its lists anew at every step
+-- the world is that of this run, which makes its lists anew at every step
 pub record StandsFor (w : Standing) (u : Setup) : Type 0 where
   pub kernel : u.kernel ≡ w.kernel
   pub grid : u.grid ≡ w.grid
   pub theta : u.theta ≡ w.theta
   pub group : u.group ≡ w.group
   pub dt : u.dt ≡ w.dt
-  pub one_rank : u.grid ≡ record { nx = 1; ny = 1; nz = 1 }
   pub rebuilt : u.reuse ≡ 1
   pub particles : AreBodies u.particles
   pub before : IsBefore u w.due w.bodies

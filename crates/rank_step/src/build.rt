@@ -1,189 +1,171 @@
-ghost use Rattle.std.specs.Prelude.{◌≡◌, ◌<◌, ◌≤◌, [], ◌∷◌, None, OnOk, IfOk, IfErr, IsPermutation, length, map};
+ghost use Rattle.std.specs.Prelude.{◌≡◌, ◌<◌, ◌≤◌, None, OnOk, IfOk, IfErr, All, flat_map, length, map, sum_by};
 ghost use Rattle.std.specs.List.Sorted.{IsStrictlyIncreasing};
-ghost use Rattle.pf_model.specs.Division.{rank_count};
-ghost use Rattle.pf_model.specs.Domains.{particles_of};
 ghost use Rattle.pf_model.specs.Particles.{AreBodies};
+ghost use Rattle.group_lists.specs.Gathering.{IsWhole, gathered_count};
+ghost use Rattle.multisection.specs.Regions.{AreTargets};
 ghost use Rattle.run_model.specs.Setup.{Setup};
 ghost use Rattle.run_model.specs.Run.{lists_fault};
-ghost use Rattle.run_model.specs.Text.{rank_counts};
-ghost use Rattle.rank_step.specs.Build.{BuildsBy, AreListsOf, IsTooMany, IsGatherOf, IsGatherOfAll, AreGathers};
+ghost use Rattle.run_model.specs.Text.{ranks as all_ranks, rank_counts};
+ghost use Rattle.rank_step.specs.Build.{BuildsBy, AreListsOf, IsTooMany};
 ghost use Rattle.rank_step.specs.Ranks.{with_owners};
+ghost use Rattle.rank_step.specs.Trees.{HaveGathered, AreFinished};
 
-use crate::counts::counts_of;
 use crate::fault::StepFault;
+use crate::gathering::gather_all;
+use crate::rank_gather::RankGather;
+use crate::rank_lists::RankLists;
+use crate::trees::trees_of;
 use exchange::RankState;
-use group_lists::{Gather, Lists, MOST_ENTRIES};
-use morton_tree::Tree;
+use group_lists::MOST_ENTRIES;
+use multisection::Domains;
 use pf_model::{
-    Body, Build, Grid, MOST_GROUP, Steps, Terms, Theta, all_ranks_have_all, boxes_ignore_order,
-    groups_ignore_order, lone_ranks_have_all,
+    Body, Build, Grid, MOST_GROUP, MOST_RANKS, Steps, Terms, Theta, all_ranks_have_all,
+    boxes_ignore_order, groups_ignore_order, kept_lists_begin_as_lists, owners_are_ranks,
+    some_have_distinct_ids,
 };
 use pf_num::OutOfMemory;
-use run_model::{RankLine, lone_ranks_build_so};
 use std::alloc::Global;
 use std::marker::Brand;
 use std::sync::ledger::{Blank, Ledger};
 use std::thread::Threads;
 
-/// What a build gives one rank that has all particles.
-#[derive(Drop)]
-pub(crate) struct Built {
-    pub(crate) lists: Lists,
-    pub(crate) counts: RankLine,
-}
-
-/// The groups of the bodies that ranks have at a build, with their lists, and what the text tells of them, unless the
-/// lists have more entries than the limit.
+/// The groups of particles by ascending id, each of which is with its owner, with their lists, rank by rank, and what
+/// the text tells of each rank, unless all lists have more entries than the limit.
 pub(crate) fn build<R: Threads + Sync>(
     rt: &R,
     alloc: Global,
+    bodies: &[Body],
     ranks: &[RankState],
-    now: &[Body],
+    domains: &Domains,
     grid: Grid,
     theta: Theta,
     limit: u32,
-) -> Result<Built, StepFault>
-    requires particles { AreBodies now.now }
-    requires ascending { IsStrictlyIncreasing (map (λ p. p.id) now.now) }
-    requires owners { ranks.now ≡ with_owners grid now.now }
-    requires one_rank { grid ≡ record { nx = 1; ny = 1; nz = 1 } }
+) -> Result<Vec<RankLists>, StepFault>
+    requires bodies { AreBodies bodies.now }
+    requires ascending { IsStrictlyIncreasing (map (λ p. p.id) bodies.now) }
+    requires owners { ranks.now ≡ with_owners grid bodies.now }
+    requires targets { AreTargets grid bodies.now domains.now }
     requires some { 1 ≤ limit }
     requires most { limit ≤ MOST_GROUP }
-    ensures lists { (u : Setup) → BuildsBy theta limit u → IfOk result (λ b. AreListsOf u now.now b.lists) }
-    ensures counts { (u : Setup) → BuildsBy theta limit u → IfOk result (λ b. b.counts ≡ rank_counts u now.now 0) }
-    ensures few { (u : Setup) → BuildsBy theta limit u → OnOk result (lists_fault u now.now ≡ None) }
-    ensures fault { (u : Setup) → BuildsBy theta limit u → IfErr result (IsTooMany u now.now) }
+    ensures lists { (u : Setup) → BuildsBy grid theta limit u
+        → IfOk result (λ built. AreListsOf u bodies.now (flat_map (λ r. r.lists) built.items)) }
+    ensures counts { (u : Setup) → BuildsBy grid theta limit u
+        → IfOk result (λ built. map (λ r. r.line) built.items ≡ map (rank_counts u bodies.now) (all_ranks u)) }
+    ensures few { (u : Setup) → BuildsBy grid theta limit u → OnOk result (lists_fault u bodies.now ≡ None) }
+    ensures fault { (u : Setup) → BuildsBy grid theta limit u → IfErr result (IsTooMany u bodies.now) }
 {
-    let build = Build::of(now, grid, theta);
-    build_by::<R, Brand, Brand>(rt, alloc, ranks, build, limit, Blank::new(1))
+    let build = Build::of(bodies, grid, theta);
+    build_by::<R, Brand, Brand>(rt, alloc, build, ranks, domains, limit, Blank::new(1))
 }
 
 // The same, in the terms of the build.
 fn build_by<R: Threads + Sync, T: Terms, L: Ledger>(
     rt: &R,
     alloc: Global,
-    ranks: &[RankState],
     build: Build<'_>,
+    ranks: &[RankState],
+    domains: &Domains,
     limit: u32,
     blank: Blank,
-) -> Result<Built, StepFault>
-    requires particles { T.particles ≡ build.bodies.now }
+) -> Result<Vec<RankLists>, StepFault>
     requires theta { T.theta ≡ build.theta }
     requires ascending { IsStrictlyIncreasing (map (λ p. p.id) T.particles) }
     requires owners { ranks.now ≡ with_owners T.grid T.particles }
-    requires one_rank { T.grid ≡ record { nx = 1; ny = 1; nz = 1 } }
+    requires targets { AreTargets T.grid T.particles domains.now }
     requires some { 1 ≤ limit }
     requires most { limit ≤ MOST_GROUP }
     requires name { blank.name ≡ L.name }
     requires parts { blank.parts ≡ L.parts }
     requires share { 0 < L.parts }
-    ensures lists { (u : Setup) → BuildsBy T.theta limit u → IfOk result (λ b. AreListsOf u T.particles b.lists) }
-    ensures counts { (u : Setup) → BuildsBy T.theta limit u
-        → IfOk result (λ b. b.counts ≡ rank_counts u T.particles 0) }
-    ensures few { (u : Setup) → BuildsBy T.theta limit u → OnOk result (lists_fault u T.particles ≡ None) }
-    ensures fault { (u : Setup) → BuildsBy T.theta limit u → IfErr result (IsTooMany u T.particles) }
+    ensures lists { (u : Setup) → BuildsBy T.grid T.theta limit u
+        → IfOk result (λ built. AreListsOf u T.particles (flat_map (λ r. r.lists) built.items)) }
+    ensures counts { (u : Setup) → BuildsBy T.grid T.theta limit u
+        → IfOk result (λ built. map (λ r. r.line) built.items ≡ map (rank_counts u T.particles) (all_ranks u)) }
+    ensures few { (u : Setup) → BuildsBy T.grid T.theta limit u → OnOk result (lists_fault u T.particles ≡ None) }
+    ensures fault { (u : Setup) → BuildsBy T.grid T.theta limit u → IfErr result (IsTooMany u T.particles) }
 {
-    lone_ranks_have_all();
-    let particles = build.bodies.len() as u32;
-    let gathers = gather_all::<R, T, L>(rt, alloc, ranks, build.theta, limit, blank)?;
-    finish(alloc, particles, limit, lone_gather(gathers))
+    let gathers = gathered::<R, T, L>(rt, alloc, build.theta, ranks, domains, limit, blank)?;
+    finish(alloc, limit, gathers)
 }
 
-// The gathers of all ranks, by number, each of the rank's own bodies.
-fn gather_all<R: Threads + Sync, T: Terms, L: Ledger>(
+// What each rank gathered from all ranks.
+fn gathered<R: Threads + Sync, T: Terms, L: Ledger>(
     rt: &R,
     alloc: Global,
+    t: Theta,
     ranks: &[RankState],
-    theta: Theta,
+    domains: &Domains,
     limit: u32,
     blank: Blank,
-) -> Result<Vec<Gather<T>>, OutOfMemory>
+) -> Result<Vec<RankGather<T>>, OutOfMemory>
+    requires theta { T.theta ≡ t }
     requires ascending { IsStrictlyIncreasing (map (λ p. p.id) T.particles) }
     requires owners { ranks.now ≡ with_owners T.grid T.particles }
-    requires theta { T.theta ≡ theta }
+    requires targets { AreTargets T.grid T.particles domains.now }
     requires some { 1 ≤ limit }
     requires most { limit ≤ MOST_GROUP }
     requires name { blank.name ≡ L.name }
     requires parts { blank.parts ≡ L.parts }
     requires share { 0 < L.parts }
-    ensures { IfOk result (λ gathers. AreGathers limit T.grid T.particles gathers.items) }
+    ensures { IfOk result (λ gathers. HaveGathered limit T.grid T.particles gathers.items) }
 {
-    let mut steps = Steps::<L>::new(blank);
-    let mut gathers = Vec::with_capacity(alloc, ranks.len())?;
-    for state in ranks {
-        gathers.push(gather_own::<R, T, L>(
-            rt,
-            alloc,
-            state,
-            ranks.len() as u32,
-            theta,
-            limit,
-            &mut steps,
-        )?)?;
-    }
-    Ok(gathers)
+    some_have_distinct_ids();
+    let trees = trees_of(rt, alloc, ranks, limit)?;
+    let mut steps = Steps::new(blank);
+    gather_all::<T, L>(alloc, &trees, domains, t, &mut steps)
 }
 
-// The tree of a rank, its groups, and the gather of its own bodies.
-fn gather_own<R: Threads + Sync, T: Terms, L: Ledger>(
-    rt: &R,
-    alloc: Global,
-    state: &RankState,
-    ranks: u32,
-    theta: Theta,
-    limit: u32,
-    steps: &mut Steps<L>,
-) -> Result<Gather<T>, OutOfMemory>
-    requires bodies { AreBodies state.now.bodies }
-    requires own { IsPermutation state.now.bodies (particles_of T.grid T.particles state.now.rank) }
-    requires rank { state.now.rank < ranks }
-    requires ranks { rank_count T.grid ≡ ranks }
-    requires theta { T.theta ≡ theta }
-    requires some { 1 ≤ limit }
-    requires most { limit ≤ MOST_GROUP }
-    ensures { IfOk result (IsGatherOf state.now.rank limit state.now.bodies) }
-{
-    let tree = Tree::build(rt, alloc, state.bodies.to_vec(alloc)?)?;
-    let groups = tree.groups(alloc, limit)?;
-    Gather::<T>::open::<L>(alloc, state.rank, ranks, &tree, &groups, theta, steps)
-}
-
-// The gather of the one rank.
-fn lone_gather<T: Terms>(mut gathers: Vec<Gather<T>>) -> Gather<T>
-    requires { length gathers.items ≡ 1 }
-    ensures { gathers.items ≡ result ∷ [] }
-{
-    match gathers.pop() {
-        Some(gather) => gather,
-        None => unreachable!(),
-    }
-}
-
-// The lists that were gathered of all particles, unless they have more entries than the limit.
+// The lists that were gathered from all ranks, unless they have more entries than the limit.
 fn finish<T: Terms>(
     alloc: Global,
-    particles: u32,
     limit: u32,
-    gather: Gather<T>,
-) -> Result<Built, StepFault>
-    requires particles { particles ≡ length T.particles }
-    requires one_rank { T.grid ≡ record { nx = 1; ny = 1; nz = 1 } }
-    requires gathered { IsGatherOfAll limit T.particles gather }
-    ensures lists { (u : Setup) → BuildsBy T.theta limit u → IfOk result (λ b. AreListsOf u T.particles b.lists) }
-    ensures counts { (u : Setup) → BuildsBy T.theta limit u
-        → IfOk result (λ b. b.counts ≡ rank_counts u T.particles 0) }
-    ensures few { (u : Setup) → BuildsBy T.theta limit u → OnOk result (lists_fault u T.particles ≡ None) }
-    ensures fault { (u : Setup) → BuildsBy T.theta limit u → IfErr result (IsTooMany u T.particles) }
+    gathers: Vec<RankGather<T>>,
+) -> Result<Vec<RankLists>, StepFault>
+    requires ascending { IsStrictlyIncreasing (map (λ p. p.id) T.particles) }
+    requires gathered { HaveGathered limit T.grid T.particles gathers.items }
+    ensures lists { (u : Setup) → BuildsBy T.grid T.theta limit u
+        → IfOk result (λ built. AreListsOf u T.particles (flat_map (λ r. r.lists) built.items)) }
+    ensures counts { (u : Setup) → BuildsBy T.grid T.theta limit u
+        → IfOk result (λ built. map (λ r. r.line) built.items ≡ map (rank_counts u T.particles) (all_ranks u)) }
+    ensures few { (u : Setup) → BuildsBy T.grid T.theta limit u → OnOk result (lists_fault u T.particles ≡ None) }
+    ensures fault { (u : Setup) → BuildsBy T.grid T.theta limit u → IfErr result (IsTooMany u T.particles) }
 {
-    lone_ranks_build_so();
     all_ranks_have_all();
+    owners_are_ranks();
     groups_ignore_order();
     boxes_ignore_order();
-    let count = gather.count();
+    kept_lists_begin_as_lists();
+    let count = count_of(&gathers);
     if count > MOST_ENTRIES {
         return Err(StepFault::Lists(count));
     }
-    let lists = gather.finish(alloc)?;
-    let counts = counts_of(particles, &lists);
-    Ok(Built { lists, counts })
+    Ok(finish_all(alloc, gathers)?)
+}
+
+// How long the lists of all ranks are together.
+fn count_of<T: Terms>(gathers: &[RankGather<T>]) -> u64
+    requires { length gathers.now ≤ MOST_RANKS }
+    ensures { result ≡ sum_by (gathered_count T.theta T.grid T.particles) gathers.now }
+{
+    let mut count = 0;
+    for gather in gathers {
+        count += gather.count();
+    }
+    count
+}
+
+// The lists of ranks in which every rank is in, and what the text tells of them.
+fn finish_all<T: Terms>(
+    alloc: Global,
+    gathers: Vec<RankGather<T>>,
+) -> Result<Vec<RankLists>, OutOfMemory>
+    requires whole { All (IsWhole T.grid) gathers.items }
+    requires few { All (λ gather. gathered_count T.theta T.grid T.particles gather ≤ MOST_ENTRIES) gathers.items }
+    ensures { IfOk result (λ finished. AreFinished T.theta T.grid T.particles gathers.items finished.items) }
+{
+    let mut finished = Vec::with_capacity(alloc, gathers.len())?;
+    for gather in gathers {
+        finished.push(gather.finish(alloc)?)?;
+    }
+    Ok(finished)
 }

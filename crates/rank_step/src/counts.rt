@@ -6,9 +6,9 @@ use group_lists::Lists;
 use pf_model::Entry;
 use run_model::RankLine;
 
-// What the text of a step tells of a rank that has so many particles, and receives none.
-pub(crate) fn counts_of(particles: u32, lists: &Lists) -> RankLine
-    ensures { result ≡ counts_of particles lists.now }
+// What the text of a step tells of a rank that has so many particles, and received so many cells and particles.
+pub(crate) fn counts_of(particles: u32, cells: u32, parts: u32, lists: &Lists) -> RankLine
+    ensures { result ≡ counts_of particles cells parts lists.now }
 {
     let groups = lists.groups();
     let mut listcells = 0;
@@ -21,20 +21,20 @@ pub(crate) fn counts_of(particles: u32, lists: &Lists) -> RankLine
     RankLine {
         particles,
         groups,
-        cells: 0,
-        parts: 0,
+        cells,
+        parts,
         listcells,
         listparts,
     }
 }
 
-fn cells_in(entries: &[Entry]) -> usize
+pub(crate) fn cells_in(entries: &[Entry]) -> usize
     ensures { result ≡ cells_in entries.now }
 {
     entries.iter().filter(|entry| is_cell(entry)).count()
 }
 
-fn particles_within(entries: &[Entry]) -> usize
+pub(crate) fn particles_within(entries: &[Entry]) -> usize
     ensures { result ≡ particles_within entries.now }
 {
     entries.iter().filter(|entry| !is_cell(entry)).count()

@@ -1,6 +1,6 @@
 // The steps of a run: a world of all particles and of the ranks that have them, and the world after the next
-// step. It stands on the ranks of exchange, the lists of group_lists, the forces of force_phase and the moves of
-// leapfrog.
+// step. It stands on the ranks of exchange, the lists of group_lists over the trees of essential_tree, the forces
+// of force_phase and the moves of leapfrog.
 #![tactic(auto)]
 
 mod build;
@@ -10,13 +10,17 @@ mod fault;
 mod first_ranks;
 mod forced;
 mod forces;
+mod gathering;
 mod held_now;
 mod inbox;
 mod leaving;
 mod motion;
 mod moves;
+mod rank_gather;
+mod rank_lists;
 mod settling;
 mod told;
+mod trees;
 mod world;
 
 pub use fault::StepFault;

@@ -21,7 +21,7 @@ use kern_types::Typed;
 use pf_io::Gate;
 use pf_model::{Body, Grid, MOST_GROUP, Theta, distinct_ids_ignore_order, orders_by_id_are_one};
 use pf_num::OutOfMemory;
-use run_model::{Row, StepText, lone_ranks_build_so};
+use run_model::{Row, StepText};
 use std::alloc::{AllocError, Global};
 use std::marker::Model;
 use std::thread::Threads;
@@ -86,11 +86,9 @@ impl Model for World {
 }
 
 impl World {
-    /// The world of particles as they were read, before step 0. For now there is one rank, and every step
-    /// makes its lists anew.
+    /// The world of particles as they were read, before step 0. For now every step makes its lists anew.
     pub fn open(alloc: Global, s: WorldSetup, t: Typed) -> Result<World, OutOfMemory>
         requires particles { AreBodies s.bodies.items }
-        requires one_rank { s.grid ≡ record { nx = 1; ny = 1; nz = 1 } }
         requires rebuilt { s.reuse ≡ 1 }
         requires some { 1 ≤ s.group }
         requires most { s.group ≤ MOST_GROUP }
@@ -143,8 +141,8 @@ impl World {
     fn taken<R: Threads + Sync>(&self, rt: &R, alloc: Global) -> Result<Taken, StepFault>
         ensures sound { IfOk result (λ taken.
             IsSound self.now.grid self.now.group taken.bodies.items taken.ranks.items) }
-        ensures ok { (u : Setup) → StandsFor self.now u
-            → IfOk result (λ taken. Reaches u self.now.due taken.bodies.items taken.counts taken.ranks.items) }
+        ensures ok { (u : Setup) → StandsFor self.now u → IfOk result (λ taken.
+            Reaches u self.now.due taken.bodies.items taken.counts.items taken.domains taken.ranks.items) }
         ensures fault { (u : Setup) → StandsFor self.now u → IfErr result (StopsBy u self.now.due) }
     {
         if self.due == 0 {
@@ -159,8 +157,8 @@ impl World {
         requires { self.now.due ≡ 0 }
         ensures sound { IfOk result (λ taken.
             IsSound self.now.grid self.now.group taken.bodies.items taken.ranks.items) }
-        ensures ok { (u : Setup) → StandsFor self.now u
-            → IfOk result (λ taken. Reaches u 0 taken.bodies.items taken.counts taken.ranks.items) }
+        ensures ok { (u : Setup) → StandsFor self.now u → IfOk result (λ taken.
+            Reaches u 0 taken.bodies.items taken.counts.items taken.domains taken.ranks.items) }
         ensures fault { (u : Setup) → StandsFor self.now u → IfErr result (StopsBy u 0) }
     {
         let read = bodies_of(alloc, &self.bodies)?;
@@ -172,8 +170,8 @@ impl World {
         requires { 1 ≤ self.now.due }
         ensures sound { IfOk result (λ taken.
             IsSound self.now.grid self.now.group taken.bodies.items taken.ranks.items) }
-        ensures ok { (u : Setup) → StandsFor self.now u
-            → IfOk result (λ taken. Reaches u self.now.due taken.bodies.items taken.counts taken.ranks.items) }
+        ensures ok { (u : Setup) → StandsFor self.now u → IfOk result (λ taken.
+            Reaches u self.now.due taken.bodies.items taken.counts.items taken.domains taken.ranks.items) }
         ensures fault { (u : Setup) → StandsFor self.now u → IfErr result (StopsBy u self.now.due) }
     {
         let motion = Motion::of(&self.kernel, self.theta, self.dt);
@@ -191,10 +189,11 @@ impl World {
         now: &[Body],
     ) -> Result<Taken, StepFault>
         requires same { map (λ p. p.id) now.now ≡ map (λ b. b.body.id) self.now.bodies }
-        ensures taken { (u : Setup) → TakesBy self.now.kernel self.now.theta self.now.group u
-            → IfOk result (λ taken. Takes u now.now taken.bodies.items taken.counts taken.ranks.items) }
+        ensures taken { (u : Setup) → TakesBy self.now.kernel self.now.grid self.now.theta self.now.group u
+            → IfOk result (λ taken.
+            Takes u now.now taken.bodies.items taken.counts.items taken.domains taken.ranks.items) }
         ensures together { IfOk result (λ taken. HaveTogether self.now.grid now.now taken.ranks.items) }
-        ensures fault { (u : Setup) → TakesBy self.now.kernel self.now.theta self.now.group u
+        ensures fault { (u : Setup) → TakesBy self.now.kernel self.now.grid self.now.theta self.now.group u
             → IfErr result (StopsAt (taking_fault u now.now)) }
     {
         let ranks = held_now(alloc, &self.ranks, now)?;
@@ -215,11 +214,11 @@ impl World {
         requires few { self.due < 2 ^ 31 }
         requires sound { IsSound self.grid self.group taken.bodies.items taken.ranks.items }
         ensures ok { IfOk result (λ r. (u : Setup) → StandsFor self u
-            → Reaches u self.due taken.bodies.items taken.counts taken.ranks.items → Steps u self.due r.0 r.1.text) }
+            → Reaches u self.due taken.bodies.items taken.counts.items taken.domains taken.ranks.items
+            → Steps u self.due r.0 r.1.text) }
         ensures fault { IfErr result (λ f. f ≡ StepFault.Memory) }
     {
-        lone_ranks_build_so();
-        let text = told(alloc, self.due, taken.counts, &taken.bodies)?;
+        let text = told(alloc, self.due, taken.counts, &taken.domains, &taken.bodies)?;
         let after = World {
             kernel: self.kernel,
             grid: self.grid,

@@ -1,53 +1,62 @@
-use Rattle.std.proofs.Common.{◌∙◌}
-use Rattle.rank_step.proofs.BuildLemmas.{Laws, IsReady, AreFinished, lists_for_run, counts_for_run, few_for_run, many_for_run}
+use Rattle.std.proofs.Common.{◌∙◌, ap, arith}
+use Rattle.std.specs.List.{sum_by}
+use Rattle.group_lists.specs.Gathering.{gathered_count}
+use Rattle.rank_step.proofs.BuildLemmas.{Laws, AreReady, all_whole, each_few, lists_for_run, lines_for_run, few_for_run, many_for_run}
 use Rattle.rank_step.proofs.build.finish.Given as given
 use Rattle.rank_step.proofs.build.finish.Goals as goal
 
-laws : (g : given.Over) (c : goal.After-counts_of-counts g) → Laws
-laws g c = record {
-  groups = c.groups_ignore_order.ensures;
-  boxes = c.boxes_ignore_order.ensures;
-  ranks = c.all_ranks_have_all.ensures;
-  lone = c.lone_ranks_build_so.ensures;
-}
+pub finish_all-requires-clause-whole : goal.finish_all-requires-clause-whole
+finish_all-requires-clause-whole g c = all_whole c.args.limit g.T.Terms.grid g.T.Terms.particles c.args.gathers.items c.requires.gathered
 
-ready : (g : given.Over) (c : goal.After-counts_of-counts g) → IsReady c.args.limit g.T.Terms.grid g.T.Terms.particles c.args.gather
-ready g c = record {
-  division = g.T.Terms.is_division;
-  one_rank = c.requires.one_rank;
-  distinct = g.T.Terms.are_bodies.distinct;
-  all = c.requires.gathered;
-}
-
-finished : (g : given.Over) (c : goal.After-counts_of-counts g) → AreFinished g.T.Terms.theta g.T.Terms.particles c.args.gather.own c.args.gather.groups c.in_ok-lists.lists
-finished g c = record { bodies = c.in_ok-lists.ensures.bodies; entries = c.in_ok-lists.ensures.entries }
-
-pub returns-clause-lists : goal.returns-clause-lists
-returns-clause-lists g c =
-    lists_for_run (laws g c) g.T.Terms.theta c.args.limit g.T.Terms.grid g.T.Terms.particles c.args.gather c.in_ok-lists.lists (ready g c) (finished g c)
-
-pub returns-clause-counts : goal.returns-clause-counts
-returns-clause-counts g c = λ u by.
-    c.counts_of-counts.ensures
-    ∙ counts_for_run (laws g c) g.T.Terms.theta c.args.limit g.T.Terms.grid g.T.Terms.particles c.args.gather c.in_ok-lists.lists c.args.particles (ready g c) (finished g c) c.requires.particles u by
-
-pub returns-clause-few : goal.returns-clause-few
-returns-clause-few g c =
-    few_for_run (laws g c) g.T.Terms.theta c.args.limit g.T.Terms.grid g.T.Terms.particles c.args.gather c.count-count.result (ready g c) c.count-count.ensures c.if-count-gt-MOST_ENTRIES.false
+pub finish_all-requires-clause-few : goal.finish_all-requires-clause-few
+finish_all-requires-clause-few g c =
+    let counted = c.count_of-count.ensures ∙ ap (sum_by (gathered_count g.T.Terms.theta g.T.Terms.grid g.T.Terms.particles)) c.deref.ensures.value in
+    let few = c.if-count-gt-MOST_ENTRIES.false in
+    each_few (gathered_count g.T.Terms.theta g.T.Terms.grid g.T.Terms.particles) 16777216 c.args.gathers.items (omega arith)
 
 pub returns-then-count-gt-MOST_ENTRIES-clause-fault :
     goal.returns-then-count-gt-MOST_ENTRIES-clause-fault
-returns-then-count-gt-MOST_ENTRIES-clause-fault g c =
+returns-then-count-gt-MOST_ENTRIES-clause-fault g c u by =
     let laws : Laws = record {
       groups = c.groups_ignore_order.ensures;
       boxes = c.boxes_ignore_order.ensures;
       ranks = c.all_ranks_have_all.ensures;
-      lone = c.lone_ranks_build_so.ensures;
+      owners = c.owners_are_ranks.ensures;
+      kept = c.kept_lists_begin_as_lists.ensures;
     } in
-    let ready : IsReady c.args.limit g.T.Terms.grid g.T.Terms.particles c.args.gather = record {
+    let ready : AreReady c.args.limit g.T.Terms.grid g.T.Terms.particles c.args.gathers.items = record {
       division = g.T.Terms.is_division;
-      one_rank = c.requires.one_rank;
-      distinct = g.T.Terms.are_bodies.distinct;
+      up = c.requires.ascending;
       all = c.requires.gathered;
     } in
-    many_for_run laws g.T.Terms.theta c.args.limit g.T.Terms.grid g.T.Terms.particles c.args.gather c.count-count.result ready c.count-count.ensures c.if-count-gt-MOST_ENTRIES.true
+    many_for_run laws g.T.Terms.grid g.T.Terms.theta c.args.limit g.T.Terms.particles c.args.gathers.items ready u by c.count_of-count.result
+    (c.count_of-count.ensures ∙ ap (sum_by (gathered_count g.T.Terms.theta g.T.Terms.grid g.T.Terms.particles)) c.deref.ensures.value) c.if-count-gt-MOST_ENTRIES.true
+
+laws : (g : given.Over) (c : goal.In_ok-finish_all g) → Laws
+laws g c = record {
+  groups = c.groups_ignore_order.ensures;
+  boxes = c.boxes_ignore_order.ensures;
+  ranks = c.all_ranks_have_all.ensures;
+  owners = c.owners_are_ranks.ensures;
+  kept = c.kept_lists_begin_as_lists.ensures;
+}
+
+ready : (g : given.Over) (c : goal.In_ok-finish_all g) → AreReady c.args.limit g.T.Terms.grid g.T.Terms.particles c.args.gathers.items
+ready g c = record {
+  division = g.T.Terms.is_division;
+  up = c.requires.ascending;
+  all = c.requires.gathered;
+}
+
+pub returns-clause-lists : goal.returns-clause-lists
+returns-clause-lists g c u by =
+    lists_for_run (laws g c) g.T.Terms.grid g.T.Terms.theta c.args.limit g.T.Terms.particles c.args.gathers.items (ready g c) u by c.in_ok-finish_all.field-0.items c.in_ok-finish_all.ensures
+
+pub returns-clause-counts : goal.returns-clause-counts
+returns-clause-counts g c u by =
+    lines_for_run (laws g c) g.T.Terms.grid g.T.Terms.theta c.args.limit g.T.Terms.particles c.args.gathers.items (ready g c) u by c.in_ok-finish_all.field-0.items c.in_ok-finish_all.ensures
+
+pub returns-clause-few : goal.returns-clause-few
+returns-clause-few g c u by =
+    few_for_run (laws g c) g.T.Terms.grid g.T.Terms.theta c.args.limit g.T.Terms.particles c.args.gathers.items (ready g c) u by c.count_of-count.result
+    (c.count_of-count.ensures ∙ ap (sum_by (gathered_count g.T.Terms.theta g.T.Terms.grid g.T.Terms.particles)) c.deref.ensures.value) c.if-count-gt-MOST_ENTRIES.false

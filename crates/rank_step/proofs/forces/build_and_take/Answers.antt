@@ -1,16 +1,23 @@
-use Rattle.std.proofs.Common.{ap, refl, sym, ◌∙◌}
+use Rattle.std.proofs.Common.{List, map, ap, refl, sym, ◌∙◌, subst}
+use Rattle.std.specs.List.{flat_map}
+use Rattle.std.proofs.lemmas.Result.{err_from_is_err_and}
 use Rattle.pf_model.specs.Criterion.{Criterion}
 use Rattle.pf_model.specs.Division.{Division}
+use Rattle.pf_model.specs.Particles.{AreBodies}
+use Rattle.force_phase.specs.Phase.{bodies_in}
+use Rattle.multisection.specs.Regions.{regions_of}
+use Rattle.rank_step.specs.declared.rank_lists.RankLists.{RankLists}
+use Rattle.rank_step.specs.Build.{AreListsOf}
 use Rattle.rank_step.specs.Ranks.{with_owners}
-use Rattle.std.proofs.lemmas.Result.{err_from_is_err_and}
 use Rattle.rank_step.proofs.StepLemmas.{run_by, lists_have_bodies, stops_first, stops_later, none_of_both, too_many_stops, takes_from}
 use Rattle.rank_step.proofs.forces.build_and_take.Goals as goal
 
 pub with_forces-requires-clause-particles : goal.with_forces-requires-clause-particles
 unfolding run_by
 with_forces-requires-clause-particles g c =
-    let u = run_by c.args.t.now c.args.theta c.args.group 0 in
-    lists_have_bodies c.distinct_ids_ignore_order.ensures u c.args.now.now c.in_ok-built.built.lists (c.in_ok-built.ensures.lists u (record { theta = refl; group = refl; one_rank = refl })) c.requires.particles
+    let u = run_by c.args.t.now c.args.grid c.args.theta c.args.group 0 in
+    subst (λ (built : List RankLists). AreBodies (bodies_in (flat_map (λ r. r.lists) built))) (sym c.deref-2.ensures.value)
+    (lists_have_bodies c.distinct_ids_ignore_order.ensures u c.args.now.now _ (c.in_ok-built.ensures.lists u (record { grid = refl; theta = refl; group = refl })) c.requires.particles)
 
 pub returns-in_err-built-clause-fault : goal.returns-in_err-built-clause-fault
 returns-in_err-built-clause-fault g c u takes =
@@ -20,15 +27,20 @@ returns-in_err-built-clause-fault g c u takes =
 pub returns-in_err-with_forces-clause-fault : goal.returns-in_err-with_forces-clause-fault
 returns-in_err-with_forces-clause-fault g c u takes =
     let p = err_from_is_err_and c.from_residual-in_err-with_forces.result c.from_residual-in_err-with_forces.ensures.1 in
-    let from = takes_from u c.args.t.now c.args.theta c.args.group c.args.now.now c.in_ok-built.built.lists takes _ (ap (λ (t : Criterion). t.edge) c.theta.view_is) (c.in_ok-built.ensures.lists u takes.builds) in
+    let built = c.deref-2.result.now in
+    let lists = subst (λ (rs : List RankLists). AreListsOf u c.args.now.now (flat_map (λ r. r.lists) rs)) (sym c.deref-2.ensures.value) (c.in_ok-built.ensures.lists u takes.builds) in
+    let from = takes_from u c.args.t.now c.args.grid c.args.theta c.args.group c.args.now.now (flat_map (λ (r : RankLists). r.lists) built) takes _ (ap (λ (t : Criterion). t.edge) c.theta.view_is) lists in
     rw (p.1, p.2) (stops_later _ _ c.in_err-with_forces.field-0.0 (c.in_ok-built.ensures.few u takes.builds) (c.in_err-with_forces.ensures.fault u from))
 
 pub returns-clause-taken : goal.returns-clause-taken
 returns-clause-taken g c u takes =
-    let from = takes_from u c.args.t.now c.args.theta c.args.group c.args.now.now c.in_ok-built.built.lists takes _ (ap (λ (t : Criterion). t.edge) c.theta.view_is) (c.in_ok-built.ensures.lists u takes.builds) in
+    let built = c.deref-2.result.now in
+    let lists = subst (λ (rs : List RankLists). AreListsOf u c.args.now.now (flat_map (λ r. r.lists) rs)) (sym c.deref-2.ensures.value) (c.in_ok-built.ensures.lists u takes.builds) in
+    let from = takes_from u c.args.t.now c.args.grid c.args.theta c.args.group c.args.now.now (flat_map (λ (r : RankLists). r.lists) built) takes _ (ap (λ (t : Criterion). t.edge) c.theta.view_is) lists in
     record {
       no_fault = none_of_both _ _ (c.in_ok-built.ensures.few u takes.builds) (c.in_ok-with_forces.ensures.no_fault u from);
       forces = c.in_ok-with_forces.ensures.forces u from;
-      counts = c.in_ok-built.ensures.counts u takes.builds;
-      owners = c.in_ok-ranks.ensures.owners ∙ ap (λ (g : Division). with_owners g c.args.now.now) (c.requires.one_rank ∙ sym takes.builds.one_rank);
+      counts = c.in_ok-lines_of.ensures ∙ ap (map (λ (r : RankLists). r.line)) c.deref-3.ensures.value ∙ c.in_ok-built.ensures.counts u takes.builds;
+      domains = c.in_ok-domains.ensures.value ∙ ap (λ (d : Division). regions_of d c.args.now.now) (sym takes.builds.grid);
+      owners = c.in_ok-ranks.ensures.owners ∙ ap (λ (d : Division). with_owners d c.args.now.now) (sym takes.builds.grid);
     }

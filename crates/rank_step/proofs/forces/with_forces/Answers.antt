@@ -1,4 +1,6 @@
 use Rattle.std.proofs.Common.{◌∙◌}
+use Rattle.std.specs.List.{flat_map}
+use Rattle.rank_step.specs.declared.rank_lists.RankLists.{RankLists}
 use Rattle.std.proofs.lemmas.Result.{err_from_is_err_and}
 use Rattle.rank_step.proofs.OrderLemmas.{ascend}
 use Rattle.rank_step.proofs.ForceLemmas.{TakesFrom_forces, TakesFrom_no_fault, TakesFrom_fault}
@@ -7,17 +9,17 @@ use Rattle.rank_step.proofs.forces.with_forces.Goals as goal
 pub returns-clause-forces : goal.returns-clause-forces
 returns-clause-forces c u takes =
     c.in_ok-paired.ensures
-    ∙ TakesFrom_forces c.orders_by_id_are_one.ensures u c.args.t.now c.args.edge c.args.now.now c.args.lists.now takes (ascend c.args.now.now c.requires.ascending) c.in_ok-rows.rows.items
-    (rw c.from_ref.ensures.value at c.in_ok-rows.ensures.rows)
+    ∙ TakesFrom_forces c.orders_by_id_are_one.ensures u c.args.t.now c.args.edge c.args.now.now (flat_map (λ (r : RankLists). r.lists) c.args.built.now) takes (ascend c.args.now.now c.requires.ascending) c.in_ok-rows.rows.items
+    c.in_ok-rows.ensures.rows
 
 pub returns-clause-no_fault : goal.returns-clause-no_fault
 returns-clause-no_fault c u takes =
-    TakesFrom_no_fault c.orders_by_id_are_one.ensures u c.args.t.now c.args.edge c.args.now.now c.args.lists.now takes (ascend c.args.now.now c.requires.ascending)
-    (rw c.from_ref.ensures.value at c.in_ok-rows.ensures.no_fault)
+    TakesFrom_no_fault c.orders_by_id_are_one.ensures u c.args.t.now c.args.edge c.args.now.now (flat_map (λ (r : RankLists). r.lists) c.args.built.now) takes (ascend c.args.now.now c.requires.ascending)
+    c.in_ok-rows.ensures.no_fault
 
 pub returns-in_err-rows-clause-fault : goal.returns-in_err-rows-clause-fault
 returns-in_err-rows-clause-fault c u takes =
     let p = err_from_is_err_and c.from_residual.result c.from_residual.ensures.1 in
     rw (p.1, p.2)
-    (TakesFrom_fault c.orders_by_id_are_one.ensures u c.args.t.now c.args.edge c.args.now.now c.args.lists.now takes (ascend c.args.now.now c.requires.ascending) c.in_err-rows.field-0.0
-    (rw c.from_ref.ensures.value at c.in_err-rows.ensures.fault))
+    (TakesFrom_fault c.orders_by_id_are_one.ensures u c.args.t.now c.args.edge c.args.now.now (flat_map (λ (r : RankLists). r.lists) c.args.built.now) takes (ascend c.args.now.now c.requires.ascending) c.in_err-rows.field-0.0
+    c.in_err-rows.ensures.fault)

@@ -4,13 +4,14 @@ use Rattle.run_model.specs.Force.{first_given}
 use Rattle.run_model.specs.Run.{kicked_again, move_fault, kick_fault}
 use Rattle.rank_step.specs.declared.fault.StepFault.TheVariants.{Numeric}
 use Rattle.rank_step.specs.World.{Standing}
+use Rattle.rank_step.proofs.OrderLemmas.{ascend}
 use Rattle.rank_step.proofs.StepLemmas as steps
 use Rattle.rank_step.proofs.world.World.next.Goals as goal
 
 pub build-requires-clause-same : goal.build-requires-clause-same
 build-requires-clause-same g c κs within =
-    let u = steps.run_by c.self.inside.kernel c.self.inside.theta c.self.inside.group c.self.inside.dt in
-    let moves = steps.run_moves c.of-motion.result _ _ c.self.inside.group _ c.of-motion.ensures.place c.of-motion.ensures.edge c.of-motion.ensures.dt in
+    let u = steps.run_by c.self.inside.kernel c.self.inside.grid c.self.inside.theta c.self.inside.group c.self.inside.dt in
+    let moves = steps.run_moves c.of-motion.result _ c.self.inside.grid _ c.self.inside.group _ c.of-motion.ensures.place c.of-motion.ensures.edge c.of-motion.ensures.dt in
     let moved = steps.moved_from u _ _ _ _ c.deref-2.ensures.value (c.in_ok-now.ensures.moved u moves) c.deref.ensures.value in
     steps.map_moved_ids u _ _ moved ∙ ap steps.ids_of c.self.view_is
 
@@ -53,8 +54,8 @@ pub returns-clause-sound : goal.returns-clause-sound
 returns-clause-sound g c =
     let w = c.args.self.now in
     let now = c.deref-2.result.now in
-    let u = steps.run_by c.self.inside.kernel c.self.inside.theta c.self.inside.group c.self.inside.dt in
-    let moves = steps.run_moves c.of-motion.result _ _ c.self.inside.group _ c.of-motion.ensures.place c.of-motion.ensures.edge c.of-motion.ensures.dt in
+    let u = steps.run_by c.self.inside.kernel c.self.inside.grid c.self.inside.theta c.self.inside.group c.self.inside.dt in
+    let moves = steps.run_moves c.of-motion.result _ c.self.inside.grid _ c.self.inside.group _ c.of-motion.ensures.place c.of-motion.ensures.edge c.of-motion.ensures.dt in
     let moved = steps.moved_from u _ _ _ _ c.deref-2.ensures.value (c.in_ok-now.ensures.moved u moves) c.deref.ensures.value in
     let takes = c.in_ok-taken.ensures.taken u (steps.takes_in _ w c.self.view_is c.self.inside.dt) in
     let is = steps.written _ _ _ (omega arith) ∙ c.in_ok-kick_again.ensures.kicked u moves ∙ ap (map (kicked_again u)) (c.deref_mut.ensures.value ∙ takes.forces) in
@@ -71,7 +72,7 @@ returns-clause-ok g c u stands =
     let no_fault = ap (first_given (move_fault u)) (sym bodies) ∙ c.in_ok-now.ensures.no_fault u moves in
     let takes = c.in_ok-taken.ensures.taken u (steps.takes_by c.args.self.now u stands) in
     let forces = c.deref_mut.ensures.value ∙ takes.forces in
-    let distinct = (steps.are_bodies _ _ c.self.invariant.standing c.deref-2.result.now (steps.map_moved_ids u _ _ own)).distinct in
-    steps.next_reaches u c.args.self.now.due c.args.self.now.bodies stands.rebuilt c.requires stands.before c.deref-2.result.now moved no_fault takes.no_fault _ _ _
-    (ap (first_given (kick_fault u)) (sym forces) ∙ c.in_ok-kick_again.ensures.no_fault u moves) distinct
-    (steps.written _ _ _ (omega arith) ∙ c.in_ok-kick_again.ensures.kicked u moves ∙ ap (map (kicked_again u)) forces) takes.counts takes.owners
+    let up = ascend c.deref-2.result.now (steps.ids_ascend _ _ c.self.invariant.standing c.deref-2.result.now (steps.map_moved_ids u _ _ own)) in
+    steps.next_reaches u c.args.self.now.due c.args.self.now.bodies stands.rebuilt c.requires stands.before c.deref-2.result.now moved no_fault takes.no_fault _ _ _ _
+    (ap (first_given (kick_fault u)) (sym forces) ∙ c.in_ok-kick_again.ensures.no_fault u moves) up
+    (steps.written _ _ _ (omega arith) ∙ c.in_ok-kick_again.ensures.kicked u moves ∙ ap (map (kicked_again u)) forces) takes.counts takes.domains takes.owners

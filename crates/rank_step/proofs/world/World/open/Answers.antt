@@ -20,7 +20,7 @@ invariant_of-result c =
     let is = c.in_ok-without_forces.ensures ∙ ap (map without_forces) (c.deref.ensures.value ∙ written _ _ _ (omega arith)) in
     let sorted = c.deref-2.ensures.value ∙ written _ _ _ (omega arith) in
     let together = subst (λ (js : List Particle). HaveTogether c.args.s.grid js c.in_ok-first_ranks.field-0.items) sorted c.in_ok-first_ranks.ensures.together in
-    opened_sound c.distinct_ids_ignore_order.ensures _ _ c.requires.particles same c.sort_by_id.ensures.sorted _ _ c.requires.some c.requires.most c.requires.one_rank _ is _ together
+    opened_sound c.distinct_ids_ignore_order.ensures _ _ c.requires.particles same c.sort_by_id.ensures.sorted _ _ c.requires.some c.requires.most _ is _ together
 
 pub returns-clause-stands : goal.returns-clause-stands
 returns-clause-stands c steps =
@@ -34,7 +34,6 @@ returns-clause-stands c steps =
       theta = refl;
       group = refl;
       dt = refl;
-      one_rank = c.requires.one_rank;
       rebuilt = c.requires.rebuilt;
       particles = c.requires.particles;
       before = opened_is c.distinct_ids_ignore_order.ensures _ _ c.requires.particles same c.sort_by_id.ensures.sorted c.orders_by_id_are_one.ensures _ is;
