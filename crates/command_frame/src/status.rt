@@ -13,8 +13,6 @@ pub enum StoreCall {
 pub enum Part {
     /// The command `bench`.
     Bench,
-    /// A deck with more than one rank.
-    Grid,
     /// A deck that reuses its lists.
     Reuse,
 }

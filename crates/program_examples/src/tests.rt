@@ -5,4 +5,5 @@ mod inputs;
 mod kernels;
 mod moves;
 mod program;
+mod ranks;
 mod words;

@@ -16,7 +16,7 @@ use Rattle.command_frame.specs.declared.status.Status.TheVariants.{Done, Usage, 
 use Rattle.command_frame.specs.declared.status.StoreCall.TheVariants.{Open, Read, Create, Write, Say}
 use Rattle.command_frame.proofs.StepLaws.{carried_as_more, carried_at_once, stops_after}
 use Rattle.top_call.specs.declared.status.Refusal.{Refusal}
-use Rattle.top_call.specs.Run.{Ending, EndsRun, WithBuiltDeck, WithDeck, is_one_rank, last_status, run_verdict, unbuilt}
+use Rattle.top_call.specs.Run.{Ending, EndsRun, WithBuiltDeck, WithDeck, last_status, run_verdict, unbuilt}
 use Rattle.top_call.specs.Steps.{coming, texts_from}
 use Rattle.top_call.proofs.DumpLemmas.{all_texts}
 
@@ -43,14 +43,13 @@ writing_ends_run (StoreFault Say) h = absurd h
 writing_ends_run Memory h = tt
 
 -- a part of a run that isn't built is no command
-is_of_run : (one_rank at_once : Bool) (part : Part) → (if one_rank then (if at_once then None else Some parts.Reuse) else Some parts.Grid) ≡ Some part → EndsRun (NotBuilt part)
-is_of_run true true part e = cc
-is_of_run true false part e = let same : parts.Reuse ≡ part = cc in subst (λ (p : Part). EndsRun (NotBuilt p)) same tt
-is_of_run false at_once part e = let same : parts.Grid ≡ part = cc in subst (λ (p : Part). EndsRun (NotBuilt p)) same tt
+is_of_run : (at_once : Bool) (part : Part) → (if at_once then None else Some parts.Reuse) ≡ Some part → EndsRun (NotBuilt part)
+is_of_run true part e = cc
+is_of_run false part e = let same : parts.Reuse ≡ part = cc in subst (λ (p : Part). EndsRun (NotBuilt p)) same tt
 
 pub stops_unbuilt : (deck : Deck) (part : Part) (old : Standing) → unbuilt deck ≡ Some part → CarriesOut EndsRun (WithDeck deck) (NotBuilt part) old old
 stops_unbuilt deck part old e =
-    carried_at_once EndsRun (WithDeck deck) (NotBuilt part) old (is_of_run (is_one_rank deck.grid) (nat_eq deck.reuse 1) part e)
+    carried_at_once EndsRun (WithDeck deck) (NotBuilt part) old (is_of_run (nat_eq deck.reuse 1) part e)
     (λ files. record { meant = stops_here files; kept = refl }) (λ files said. refl) refl
   where
     stops_here : (files : Files) → WithDeck deck files (stops (NotBuilt part))

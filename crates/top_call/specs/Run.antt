@@ -1,8 +1,7 @@
 -- What the words of the program mean on the contents at entry.
-use Rattle.std.specs.Prelude.{ℕ, suc, ◌≡◌, ◌≤◌, ◌⊎◌, ◌&&◌, Bool, List, Option, Some, None, option_map, nat_eq, if◌then◌else◌}
+use Rattle.std.specs.Prelude.{ℕ, suc, ◌≡◌, ◌≤◌, ◌⊎◌, List, Option, Some, None, option_map, nat_eq, if◌then◌else◌}
 use Rattle.pf_io.specs.Store.{Files}
 use Rattle.pf_model.specs.Particle.{Particle}
-use Rattle.pf_model.specs.Division.{Division}
 use Rattle.kern_tree.specs.declared.kernel.Kernel.{Kernel}
 use Rattle.deck_file.specs.declared.deck.Deck.{Deck}
 use Rattle.run_model.specs.declared.fault.Fault.{Fault}
@@ -40,13 +39,9 @@ setup_of deck kernel particles = record {
   reuse = deck.reuse;
 }
 
-abbrev pub is_one_rank : Division → Bool
-is_one_rank grid = nat_eq grid.nx 1 && nat_eq grid.ny 1 && nat_eq grid.nz 1
-
 -- what a deck asks for and isn't built yet
 abbrev pub unbuilt : Deck → Option Part
-unbuilt deck =
-    if is_one_rank deck.grid then (if nat_eq deck.reuse 1 then None else Some parts.Reuse) else Some parts.Grid
+unbuilt deck = if nat_eq deck.reuse 1 then None else Some parts.Reuse
 
 -- the status that a step's fault ends the command with
 abbrev pub stop_status : ℕ → Option Stop → Ending
@@ -113,7 +108,6 @@ EndsRun (Refused refusal) = IsNoMemory refusal
 EndsRun (Numeric step fault) = Unit {0}
 EndsRun (Lists step count) = Unit {0}
 EndsRun (NotBuilt parts.Bench) = ⊥
-EndsRun (NotBuilt parts.Grid) = Unit {0}
 EndsRun (NotBuilt parts.Reuse) = Unit {0}
 EndsRun (StoreFault Open) = Unit {0}
 EndsRun (StoreFault Read) = Unit {0}

@@ -13,7 +13,6 @@ use command_frame::Part;
 use deck_file::Deck;
 use kern_types::Typed;
 use pf_io::{Gate, Store};
-use pf_model::Grid;
 use std::alloc::Global;
 use std::marker::Brand;
 use std::thread::Threads;
@@ -103,10 +102,7 @@ fn with_kernel<R: Threads + Sync, S: Store, G: Gate>(
 fn unbuilt(deck: &Deck) -> Option<Part>
     ensures { result ≡ unbuilt deck.now }
 {
-    let Grid { nx, ny, nz } = deck.grid;
-    if nx != 1 || ny != 1 || nz != 1 {
-        Some(Part::Grid)
-    } else if deck.reuse != 1 {
+    if deck.reuse != 1 {
         Some(Part::Reuse)
     } else {
         None

@@ -2,8 +2,23 @@ use Rattle.std.proofs.Common.{◌≡◌, ◌≤◌, Some, sym, ◌∙◌, arith}
 use Rattle.rank_step.specs.World.{StandsFor}
 use Rattle.run_model.specs.Run as stop
 use Rattle.top_call.specs.Steps.{IsDue}
-use Rattle.top_call.proofs.DumpLemmas.{due_of, coming_of, next_text, fault_comes}
+use Rattle.top_call.proofs.DumpLemmas.{due_of, coming_of, more_comes, next_text, fault_comes}
 use Rattle.top_call.proofs.dumps.Dumps.next.Goals as goal
+
+pub invariant_of-self-in-Ok : goal.invariant_of-self-in-Ok
+invariant_of-self-in-Ok g c =
+    let run = g.U.Run.setup in
+    let there : c.self.inside.world ≡ Some c.in-Some.world = sym c.take.ensures.value ∙ c.in-Some.is in
+    let due = due_of (λ w. IsDue w.due (StandsFor w run) run c.self.inside.next c.self.inside.steps) c.self.inside.world c.in-Some.world there c.self.invariant in
+    let inside : c.self.inside.next ≤ c.self.inside.steps = omega arith in
+    let taken = c.in-Ok.ensures run due.stands in
+    record {
+      number = (let number = due.number in let next = taken.3 in omega arith);
+      stands = taken.2;
+      within = more_comes run _ c.self.inside.next c.self.inside.steps (c.states_stand_before_the_end.ensures run) due inside taken.0;
+      steps_are = due.steps_are;
+      few = due.few;
+    }
 
 pub returns-in-Ok : goal.returns-in-Ok
 returns-in-Ok g c =
