@@ -1,0 +1,6 @@
+mod ListsLemmas
+mod GroupsLemmas
+mod PullLemmas
+mod OrderLemmas
+mod BuildLemmas
+mod ForceLemmas

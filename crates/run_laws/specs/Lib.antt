@@ -1,0 +1,4 @@
+pub mod ThinLaws
+pub mod PullKernel
+pub mod ThinBuild
+pub mod ThinForces
