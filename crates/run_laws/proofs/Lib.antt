@@ -4,3 +4,4 @@ mod PullLemmas
 mod OrderLemmas
 mod BuildLemmas
 mod ForceLemmas
+mod TextLemmas

@@ -2,3 +2,4 @@ pub mod ThinLaws
 pub mod PullKernel
 pub mod ThinBuild
 pub mod ThinForces
+pub mod ThinText

@@ -4,10 +4,14 @@
 ghost use Rattle.run_laws.specs.PullKernel.{PullKernelsGiveDistances};
 ghost use Rattle.run_laws.specs.ThinBuild.{OrdersByIdStay, ThinBuildsAreSo};
 ghost use Rattle.run_laws.specs.ThinForces.{PullsAddUp};
+ghost use Rattle.run_laws.specs.ThinText.{ThinTextsAreThinDumps};
 ghost use Rattle.run_laws.specs.ThinLaws.{ListsWithoutCellsAreParticles, FewParticlesAreOneGroup};
 
 use pf_geom::positions_have_cells;
-use pf_model::{group_levels_are_least, particles_of_one_id_are_one};
+use pf_model::{
+    group_levels_are_least, orders_by_id_have_distinct_ids, orders_by_id_keep_particles,
+    particles_of_one_id_are_one,
+};
 use run_model::lone_ranks_build_so;
 
 /// Where theta is 0, the list of any box is all particles, by id.
@@ -48,4 +52,16 @@ pub fn pulls_add_up()
     ensures { PullsAddUp }
 {
     particles_of_one_id_are_one();
+}
+
+/// The text of step 0 of a thin run is the thin dump.
+pub fn thin_texts_are_thin_dumps()
+    ensures { ThinTextsAreThinDumps }
+{
+    lone_ranks_build_so();
+    thin_builds_are_so();
+    pulls_add_up();
+    orders_by_id_stay();
+    orders_by_id_have_distinct_ids();
+    orders_by_id_keep_particles();
 }
