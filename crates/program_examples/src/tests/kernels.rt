@@ -74,6 +74,14 @@ FORCE num S0 n sum;
 n += 1 / (mj - 5);
 ";
 
+/// A division by 0 where a particle of mass 5 receives the force.
+pub(crate) const OVER_OWN_MASS: &str = "\
+EPI num S0 mi : mass;
+FORCE vec S16 acc sum;
+FORCE num S0 n sum;
+n += 1 / (mi - 5);
+";
+
 /// The root of a negative number.
 pub(crate) const ROOT_OF_MASS: &str = "\
 EPJ num S0 mj : mass;

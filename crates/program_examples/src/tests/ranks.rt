@@ -1,7 +1,7 @@
 // Runs on several ranks, as their dumps show them.
 
-use super::kernels::{GRAVITY, PULL};
-use super::program::{Inputs, writes};
+use super::kernels::{GRAVITY, OVER_OWN_MASS, PULL};
+use super::program::{Inputs, stops, writes};
 use std::test::Fail;
 
 #[test]
@@ -62,5 +62,64 @@ fn pieces_of_two_ranks_make_one_cell(rt: HostRuntime) -> Result<(), Fail> {
             p 1 0 0 0 0 0 0 0 0 0 0 1048579 0 0\n\
             p 2 1 1048576 0 0 0 0 0 0 0 0 -1048571 0 0\n\
             p 3 2 1048581 0 0 0 0 0 0 0 0 -1048586 0 0\n",
+    )
+}
+
+#[test]
+fn ranks_without_particles_have_lines_of_zeros(rt: HostRuntime) -> Result<(), Fail> {
+    let inputs = Inputs {
+        settings: "grid 2x1x1\n",
+        kernel: GRAVITY,
+        particles: "particles 1\ncount 0\n",
+    };
+    writes(
+        &rt,
+        inputs,
+        "step 0 particles 0 ranks 2\n\
+            rank 0 particles 0 groups 0 cells 0 parts 0 listcells 0 listparts 0\n\
+            rank 1 particles 0 groups 0 cells 0 parts 0 listcells 0 listparts 0\n",
+    )
+}
+
+#[test]
+fn the_grid_changes_owners_and_counts_alone(rt: HostRuntime) -> Result<(), Fail> {
+    let inputs = Inputs {
+        settings: "grid 2x2x2\ntheta 1/1\ngroup 1\n",
+        kernel: PULL,
+        particles: "particles 1\ncount 3\n\
+            1 0 0 0 0 0 0 1 0 0 0 0\n\
+            2 1048576 0 0 0 0 0 1 0 0 0 0\n\
+            3 1048581 0 0 0 0 0 3 0 0 0 0\n",
+    };
+    writes(
+        &rt,
+        inputs,
+        "step 0 particles 3 ranks 8\n\
+            rank 0 particles 0 groups 0 cells 0 parts 0 listcells 0 listparts 0\n\
+            rank 1 particles 0 groups 0 cells 0 parts 0 listcells 0 listparts 0\n\
+            rank 2 particles 0 groups 0 cells 0 parts 0 listcells 0 listparts 0\n\
+            rank 3 particles 1 groups 1 cells 2 parts 0 listcells 1 listparts 1\n\
+            rank 4 particles 0 groups 0 cells 0 parts 0 listcells 0 listparts 0\n\
+            rank 5 particles 0 groups 0 cells 0 parts 0 listcells 0 listparts 0\n\
+            rank 6 particles 0 groups 0 cells 0 parts 0 listcells 0 listparts 0\n\
+            rank 7 particles 2 groups 2 cells 1 parts 0 listcells 4 listparts 2\n\
+            p 1 3 0 0 0 0 0 0 0 0 0 1048579 0 0\n\
+            p 2 7 1048576 0 0 0 0 0 0 0 0 -1048571 0 0\n\
+            p 3 7 1048581 0 0 0 0 0 0 0 0 -1048586 0 0\n",
+    )
+}
+
+#[test]
+fn the_least_id_with_a_fault_is_named_whatever_its_rank(rt: HostRuntime) -> Result<(), Fail> {
+    let inputs = Inputs {
+        settings: "grid 2x1x1\n",
+        kernel: OVER_OWN_MASS,
+        particles: "particles 1\ncount 2\n9 0 0 0 0 0 0 5 0 0 0 0\n2 100 0 0 0 0 0 5 0 0 0 0\n",
+    };
+    stops(
+        &rt,
+        inputs,
+        "fdps: step 0 id 2: ZeroDivisor in statement 1\n",
+        "",
     )
 }
