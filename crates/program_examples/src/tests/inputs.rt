@@ -13,7 +13,9 @@ fn carriage_returns_and_tabs_change_nothing(rt: HostRuntime) -> Result<(), Fail>
     let inputs = Inputs {
         settings: "theta\t0/1\r\n",
         kernel: GRAVITY,
-        particles: "particles\t1\r\ncount\t2\r\n1\t0\t0\t0\t0\t0\t0\t1\t0\t0\t0\t0\r\n2\t3\t4\t0\t0\t0\t0\t1\t0\t0\t0\t0\r\n",
+        particles: "particles\t1\r\ncount\t2\r\n\
+            1\t0\t0\t0\t0\t0\t0\t1\t0\t0\t0\t0\r\n\
+            2\t3\t4\t0\t0\t0\t0\t1\t0\t0\t0\t0\r\n",
     };
     writes(
         &rt,
