@@ -1,6 +1,2 @@
-pub mod SpanLemmas
-pub mod PieceLemmas
-pub mod EntryLemmas
 pub mod ListingLemmas
-pub mod KeyLemmas
 pub mod TreeLemmas

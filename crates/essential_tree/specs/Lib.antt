@@ -1,5 +1,4 @@
 pub mod Sending
-pub mod Pieces
 pub use Rattle.pf_model.specs.EssentialTree
 pub use Rattle.pf_model.specs.Interaction
 pub use Rattle.morton_tree.specs.Tree

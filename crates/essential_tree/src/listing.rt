@@ -1,23 +1,16 @@
-ghost use Rattle.std.specs.Prelude.{◌≡◌, ◌+◌, ◌*◌, ◌≤◌, All, IfOk, IsPermutation, length, map};
-ghost use Rattle.pf_geom.specs.Bounds.{Bounds};
-ghost use Rattle.pf_model.specs.declared.entry.Entry.{Entry};
-ghost use Rattle.pf_model.specs.Criterion.{Criterion};
+ghost use Rattle.std.specs.Prelude.{◌≡◌, ◌+◌, ◌*◌, ◌≤◌, IfOk, length};
 ghost use Rattle.pf_model.specs.Interaction.{list_of};
 ghost use Rattle.morton_tree.specs.Tree.{IsOctree, IsUnmoved};
 ghost use Rattle.essential_tree.specs.Sending.{cells_among, IsSentOf};
-ghost use Rattle.essential_tree.specs.Pieces.{IsPieceOf, ArePieces, AreEntriesOf, IsInPlaceOrder};
 
-use crate::piece::Piece;
-use crate::pieces::pieces_of;
 use crate::sent::Sent;
-use morton_tree::{Span, Tree};
-use pf_geom::{Box3, Cell, DEEPEST, cell_of};
-use pf_model::{
-    Entry, Steps, Theta, levels_are_least, lists_hold_their_entries, particles_of_one_id_are_one,
-};
+use morton_tree::Tree;
+use pf_geom::{Box3, Cell, DEEPEST};
+use pf_model::{Entry, Steps, Theta};
 use pf_num::OutOfMemory;
 use std::alloc::Global;
 use std::sync::ledger::Ledger;
+use tree_lists::{keys_of, list_over};
 
 // The list of a box over the bodies of a tree, and what is kept of it where it is sent to a rank.
 pub(crate) fn list_for<L: Ledger>(
@@ -36,55 +29,11 @@ pub(crate) fn list_for<L: Ledger>(
     ensures none { t.a ≡ 0 → steps.new ≡ steps.old }
     ensures tree { IsOctree tree.now }
 {
-    levels_are_least();
-    lists_hold_their_entries();
-    particles_of_one_id_are_one();
-    let mut pieces = pieces_of(alloc, tree, b, t, steps)?;
-    put_in_order(&mut pieces);
-    let items = entries_of(alloc, tree, &pieces)?;
+    let keys = keys_of(alloc, tree.bodies())?;
+    let mut runs = Vec::new(alloc);
+    let (items, spans) = list_over(alloc, tree, &keys, b, t, &mut runs, steps)?;
     let cells = cells_among(alloc, &items)?;
-    let spans = spans_of(alloc, &pieces)?;
     Ok((items, Sent { dst, cells, spans }))
-}
-
-// Puts pieces into the order of their entries in lists.
-fn put_in_order(pieces: &mut Vec<Piece>)
-    ensures same { IsPermutation pieces.old.items pieces.new.items }
-    ensures ordered { IsInPlaceOrder pieces.new.items }
-{
-    pieces.sort_unstable_by_key(|piece| piece.place);
-}
-
-// The entries of pieces of a tree, in their order.
-fn entries_of(alloc: Global, tree: &Tree, pieces: &[Piece]) -> Result<Vec<Entry>, OutOfMemory>
-    requires unmoved { IsUnmoved tree.now }
-    requires inside { All (λ q. q.span.first + q.span.len ≤ length tree.now.built) pieces.now }
-    requires some { All (λ q. 1 ≤ q.span.len) pieces.now }
-    ensures { (t : Criterion) (box : Bounds) → All (λ q. (e : Entry) × IsPieceOf t box tree.now.built e q) pieces.now
-        → IfOk result (λ entries. AreEntriesOf t box tree.now.built entries.items pieces.now) }
-{
-    let mut entries = Vec::with_capacity(alloc, pieces.len())?;
-    for piece in pieces {
-        entries.push(entry_of(tree, *piece))?;
-    }
-    Ok(entries)
-}
-
-// The entry of a piece of a tree.
-fn entry_of(tree: &Tree, piece: Piece) -> Entry
-    requires unmoved { IsUnmoved tree.now }
-    requires some { 1 ≤ piece.span.len }
-    requires inside { piece.span.first + piece.span.len ≤ length tree.now.built }
-    ensures { (t : Criterion) (box : Bounds) (e : Entry) → IsPieceOf t box tree.now.built e piece → result ≡ e }
-{
-    levels_are_least();
-    let first = &tree.bodies()[piece.span.first as usize];
-    let (level, _) = piece.place;
-    if level <= DEEPEST {
-        Entry::Cell(cell_of(first.at, level), tree.moment(piece.span))
-    } else {
-        Entry::One(*first)
-    }
 }
 
 // The cells among entries, in their order.
@@ -98,11 +47,4 @@ fn cells_among(alloc: Global, entries: &[Entry]) -> Result<Vec<Cell>, OutOfMemor
         }
     }
     Ok(cells)
-}
-
-// The spans of pieces.
-fn spans_of(alloc: Global, pieces: &[Piece]) -> Result<Vec<Span>, OutOfMemory>
-    ensures { IfOk result (λ spans. spans.items ≡ map (λ q. q.span) pieces.now) }
-{
-    Ok(pieces.iter().map(|piece| piece.span).collect(alloc)?)
 }

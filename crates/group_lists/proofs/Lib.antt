@@ -8,7 +8,6 @@ pub mod OccupiedLemmas
 pub mod ApartLemmas
 pub mod MergeLemmas
 pub mod OrderLemmas
-pub mod RunLemmas
 pub mod GatherLemmas
 pub mod AbsorbLemmas
 pub mod PieceRunLemmas

@@ -1,5 +1,6 @@
 ghost use Rattle.std.specs.Prelude.{◌≡◌, ◌+◌, ◌*◌, ◌<◌, ◌≤◌, IfOk, OnOk, All, Contains, IsPermutation, [], length, map};
 ghost use Rattle.std.specs.Prelude.{slice_get, Some, sum_by};
+ghost use Rattle.pf_geom.specs.Key.{morton_key};
 ghost use Rattle.pf_model.specs.Division.{rank_count};
 ghost use Rattle.pf_model.specs.Domains.{particles_of};
 ghost use Rattle.pf_model.specs.Interaction.{list_of};
@@ -12,7 +13,6 @@ use crate::absorbing::absorb_tree;
 use crate::keyed_tree::KeyedTree;
 use crate::listed::Listed;
 use crate::lists::Lists;
-use crate::scan::list_over;
 use morton_tree::{Group, Tree};
 use pf_geom::DEEPEST;
 use pf_model::{
@@ -23,6 +23,7 @@ use pf_num::OutOfMemory;
 use std::alloc::Global;
 use std::marker::Model;
 use std::sync::ledger::Ledger;
+use tree_lists::{keys_of, list_over};
 
 /// The most entries that the lists of a rank's groups have together, and the most that are kept.
 pub const MOST_ENTRIES: u64 = 1 << 24;
@@ -57,7 +58,8 @@ impl<T: Terms> Model for Gather<T> {
 impl<T: Terms> Gather<T> {
     /// Begins the lists of groups of a rank's tree, which hasn't moved, with its own bodies. There are at
     /// most `MOST_PARTICLES` groups, each with a span of the tree that isn't empty, and the least box round its
-    /// bodies.
+    /// bodies. For each group no more cells are tested than `DEEPEST + 1` times the entries of its list over the own
+    /// bodies, and none where the opening angle is 0.
     pub fn open<L: Ledger>(
         alloc: Global,
         rank: u32,
@@ -74,12 +76,17 @@ impl<T: Terms> Gather<T> {
         requires ranks { rank_count T.grid ≡ ranks }
         requires own { IsPermutation tree.now.built (particles_of T.grid T.particles rank) }
         requires theta { t ≡ T.theta }
-        ensures { IfOk result (λ gather. gather ≡ own_gathering rank tree.now.built groups.now) }
+        ensures value { IfOk result (λ gather. gather ≡ own_gathering rank tree.now.built groups.now) }
+        ensures tests { OnOk result (steps.new ≤ steps.old
+            + (DEEPEST + 1) * source_count T.theta T.grid T.particles groups.now rank) }
+        ensures none { t.a ≡ 0 → steps.new ≡ steps.old }
     {
         lists_ignore_order();
         one_rank_has_its_own();
-        let (listed, count) = list_groups(alloc, tree, groups, t, steps)?;
-        let bodies = tree.bodies().to_vec(alloc)?;
+        let own = tree.bodies();
+        let keys = keys_of(alloc, own)?;
+        let (listed, count) = list_groups(alloc, tree, &keys, groups, t, steps)?;
+        let bodies = own.to_vec(alloc)?;
         Ok(Gather {
             rank,
             theta: t,
@@ -162,15 +169,17 @@ impl<T: Terms> Gather<T> {
     }
 }
 
-// The lists of groups over the bodies of a tree, and how long they are together.
+// The lists of groups over the bodies of a tree, by the keys of the bodies, and how long they are together.
 fn list_groups<L: Ledger>(
     alloc: Global,
     tree: &Tree,
+    keys: &[u128],
     groups: &[Group],
     t: Theta,
     steps: &mut Steps<L>,
 ) -> Result<(Vec<Listed>, u64), OutOfMemory>
     requires unmoved { IsUnmoved tree.now }
+    requires keys { keys.now ≡ map (λ j. morton_key j.at) tree.now.built }
     requires few { length groups.now ≤ MOST_PARTICLES }
     ensures each { IfOk result (λ r. map (λ l. l.group) r.0.items ≡ groups.now) }
     ensures count { IfOk result (λ r. r.1
@@ -178,12 +187,15 @@ fn list_groups<L: Ledger>(
     ensures lists { IfOk result (λ r. r.1 ≤ MOST_ENTRIES → map (λ l. l.entries.items) r.0.items
         ≡ map (λ g. list_of t g.around tree.now.built) groups.now) }
     ensures bounded { IfOk result (λ r. sum_by length (map (λ l. l.entries.items) r.0.items) ≤ MOST_ENTRIES) }
+    ensures tests { IfOk result (λ r. steps.new ≤ steps.old + (DEEPEST + 1) * r.1) }
+    ensures none { t.a ≡ 0 → steps.new ≡ steps.old }
 {
+    lists_are_short();
     let mut listed = Vec::with_capacity(alloc, groups.len())?;
-    let mut scratch = Vec::new(alloc);
+    let mut runs = Vec::new(alloc);
     let mut count = 0;
     for group in groups {
-        let entries = list_over(alloc, tree, group.around, t, &mut scratch, steps)?;
+        let (entries, _) = list_over(alloc, tree, keys, group.around, t, &mut runs, steps)?;
         count += entries.len() as u64;
         listed.push(Listed {
             group: *group,

@@ -1,5 +1,5 @@
 // The interaction lists of the groups of one rank, while they are gathered and when they are whole. It
-// stands on morton_tree, opening_test and pf_model, with the cells of pf_geom and the want of memory of
+// stands on tree_lists, cell_runs, morton_tree and pf_model, with the cells of pf_geom and the want of memory of
 // pf_num.
 #![tactic(auto)]
 
@@ -11,8 +11,8 @@ mod listed;
 mod lists;
 mod merging;
 mod occupied;
+mod ordering;
 mod pieces;
-mod scan;
 
 pub use gather::{Gather, MOST_ENTRIES};
 pub use lists::{HasLists, Lists};

@@ -6,7 +6,7 @@ ghost use Rattle.group_lists.specs.Keyed.{IsServed, items_at, IsPieceOfRun};
 
 use crate::keyed_tree::{KeyedTree, cell_key};
 use crate::laws::items_make_pieces;
-use crate::scan::put_in_order;
+use crate::ordering::put_in_order;
 use cell_runs::{CellRun, find_runs};
 use pf_geom::{Box3, Cell, DEEPEST, positions_have_cells};
 use pf_model::{Entry, Steps, Terms, Theta, one_rank_has_its_own, some_have_distinct_ids};

@@ -1,6 +1,0 @@
-use Rattle.std.proofs.Common.{◌≡◌, length}
-use Rattle.essential_tree.proofs.ListingLemmas.{EachAt, IsPieceAt}
-use Rattle.essential_tree.proofs.pieces.pieces_for.Given as goal
-
-abbrev pub invariant-loop-run : goal.invariant-loop-run
-invariant-loop-run l = (length l.pieces.items ≡ l.run-index) × EachAt (IsPieceAt l.bodies l.runs) l.pieces.items

@@ -1,0 +1,5 @@
+pub mod SpanLemmas
+pub mod PieceLemmas
+pub mod EntryLemmas
+pub mod ListingLemmas
+pub mod KeyLemmas
