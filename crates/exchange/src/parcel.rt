@@ -23,9 +23,13 @@ impl Model for Parcel {
 }
 
 impl Named for Parcel {
+    ghost use Rattle.std.specs.Prelude.{⊤};
+
     ghost source = { λ p. p.src };
 
     ghost target = { λ p. p.dst };
+
+    ghost has_terms = { λ p. ⊤ };
 
     fn src(&self) -> u32 {
         self.src

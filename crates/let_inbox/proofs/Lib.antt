@@ -1,0 +1,4 @@
+mod Keeps
+mod Settles
+mod Sources
+mod Views

@@ -1,7 +1,12 @@
-// What goes between ranks: parcels that name the rank that they are from and the rank that they are for. It
-// stands on nothing but std.
+// Inboxes, through which ranks put parcels for one another: each names the rank that it is from and the rank
+// that it is for, and is put once and taken once. It stands on pf_num and on the toolchain's crossbeam_queue.
 #![tactic(auto)]
 
+mod inbox;
 mod named;
+mod rule;
+mod tokens;
 
+pub use inbox::Inbox;
 pub use named::Named;
+pub use tokens::{Putter, Spent, Taker, taken};
