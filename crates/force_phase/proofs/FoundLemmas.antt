@@ -1,11 +1,12 @@
 -- What the particles of groups gave, as all their forces or the least of their faults.
-use Rattle.std.proofs.Common.{◌≡◌, ℕ, ℤ, ◌≤◌, Bool, true, false, zero, suc, List, [], ◌∷◌, ◌++◌, length, get_or, take, Result, Ok, Err, Option, Some, None, map, nat_eq, ◌<◌, inl, inr, refl, sym, ap, ◌∙◌, subst, append_assoc, arith}
+use Rattle.std.proofs.Common.{◌≡◌, ℕ, ◌+◌, ℤ, ◌≤◌, Bool, true, false, zero, suc, List, [], ◌∷◌, ◌++◌, length, get_or, set, take, Result, Ok, Err, Option, Some, None, map, nat_eq, ◌<◌, inl, inr, refl, sym, ap, ◌∙◌, subst, arith}
 use Rattle.std.specs.Prelude.{nat_le, slice_get, IfOk, IfErr, OnOk}
-use Rattle.std.specs.List.{All, Contains, IsDistinct, cons_option, filter_map, flat_map, fold}
+use Rattle.std.specs.List.{Contains, IsDistinct, cons_option, filter_map, flat_map, fold}
 use Rattle.std.specs.Option.{option_map}
 use Rattle.std.proofs.lemmas.Bool.{leb-true, leb-false}
-use Rattle.std.proofs.lemmas.List.{append-nil, map-append, take_all}
-use Rattle.std.proofs.lemmas.List.Elements.{All-nil, All-cons, All-head, All-tail, Contains-append_left, Contains-append_right, Contains-append_cases, Contains-push}
+use Rattle.std.proofs.lemmas.List.{append-nil, map-append, take_all, take_more, take_more_set, map_more}
+use Rattle.std.proofs.lemmas.Grind.{flat_map-append}
+use Rattle.std.proofs.lemmas.List.Elements.{All-nil, All-cons, All-head, All-tail, All-append, All-weaker, filter_map-append, Contains-append_left, Contains-append_right, Contains-append_cases, Contains-push}
 use Rattle.std.proofs.lemmas.List.Sums.{fold-append}
 use Rattle.pf_geom.specs.declared.edge.Edge.{Edge}
 use Rattle.pf_model.specs.declared.entry.Entry.{Entry}
@@ -20,18 +21,19 @@ use Rattle.force_phase.specs.declared.phase.IdRow.{IdRow}
 use Rattle.force_phase.specs.declared.phase.PhaseFault.{PhaseFault}
 use Rattle.force_phase.specs.declared.phase.PhaseFault.TheVariants.{Numeric, Memory}
 use Rattle.force_phase.specs.Forces.{AreForces}
-use Rattle.force_phase.specs.Found.{FoundSoFar, nothing, lesser, with_row, with_fault, with_answer, with_particle, with_group, in_order_of_id, IsLeastOf}
+use Rattle.force_phase.specs.declared.partner.Partner.{Partner}
+use Rattle.force_phase.specs.Partner.{partner_of}
+use Rattle.force_phase.specs.Found.{FoundSoFar, nothing, lesser, under_ids, with_rows, with_fault, in_order_of_id, IsLeastOf}
+use Rattle.force_phase.specs.Finished.{IsLeastOrNone, IsFoundIn}
+use Rattle.force_phase.specs.declared.group_out.Outcome.TheVariants as outcomes
+use Rattle.force_phase.specs.declared.group_out.Outcome.TheVariants.{Done}
+use Rattle.force_phase.specs.Outcome.{with_stop, faults_of, IsLeast, IsOutcome}
 use Rattle.force_phase.specs.Phase.{bodies_in, rows_in, rows_by_id, fault_of, faults_in, StopsPhase}
 
 -- ---- the least of faults
 
 abbrev least_over : Option Fault → List Fault → Option Fault
 least_over least faults = fold (λ sofar fault. Some (lesser sofar fault)) least faults
-
--- a fault among these, of which none has a lower id
-record IsLeast (faults : List Fault) (least : Fault) : Type 0 where
-  pub among : Contains faults least
-  pub below : All (λ other. least.id ≤ other.id) faults
 
 -- what is kept of a first fault and others
 abbrev HasLeast : Fault → List Fault → Type 0
@@ -82,105 +84,162 @@ least_kept (f ∷ fs) least e =
 
 -- ---- particle by particle
 
-parts_empty : {X : Type 0} (xs ys : List X) → xs ++ ys ≡ [] → (xs ≡ []) × (ys ≡ [])
-parts_empty [] ys e = (refl, e)
-parts_empty (x ∷ xs) ys e = absurd (cc)
+abbrev some_fault : ℕ → Option What → Option Fault
+some_fault id answer = option_map (λ what. record { id = id; what = what }) answer
+
+module _ (edge : Edge) (kernel : Kernel) (g : GroupList) where
+  -- as far as a loop over the particles of a group has come
+  pub record IsEvaluated (k : ℕ) (least : Option Fault) (rows : List (List ℤ)) : Type 0 where
+    pub least_is : least ≡ least_over None (filter_map (fault_of edge kernel g) (take k g.bodies))
+    pub rows_are : least ≡ None → take k rows ≡ map (force_row edge kernel g.entries) (take k g.bodies)
+
+  module _ (k : ℕ) (least : Option Fault) (rows : List (List ℤ)) (now : IsEvaluated k least rows) (i : Particle) (inside : k < length g.bodies) (within : k < length rows) (is : i ≡ get_or g.bodies k i) (row : List ℤ) where
+    faults_next : filter_map (fault_of edge kernel g) (take (k + 1) g.bodies) ≡ filter_map (fault_of edge kernel g) (take k g.bodies) ++ cons_option (fault_of edge kernel g i) []
+    faults_next =
+        ap (filter_map (fault_of edge kernel g)) (take_more g.bodies k i inside ∙ ap (λ b. take k g.bodies ++ b ∷ []) (sym is))
+        ∙ filter_map-append (fault_of edge kernel g) (take k g.bodies) (i ∷ [])
+
+    least_next : least_over None (filter_map (fault_of edge kernel g) (take (k + 1) g.bodies)) ≡ least_over least (cons_option (fault_of edge kernel g i) [])
+    least_next =
+        ap (least_over None) faults_next
+        ∙ fold-append (λ sofar fault. Some (lesser sofar fault)) None (filter_map (fault_of edge kernel g) (take k g.bodies)) (cons_option (fault_of edge kernel g i) [])
+        ∙ ap (λ o. least_over o (cons_option (fault_of edge kernel g i) [])) (sym now.least_is)
+
+    pub evaluated : {X : Type 0} (partners : List Partner) (same : partners ≡ map partner_of g.entries) (stop : Result X What)
+        → OnOk stop ((entries : List Entry) → partners ≡ map partner_of entries → AreForces edge kernel entries i row)
+        → IfErr stop (λ what. (entries : List Entry) → partners ≡ map partner_of entries → force_fault edge kernel entries i ≡ Some what)
+        → IsEvaluated (k + 1) (with_stop least i.id stop) (set rows k row)
+    evaluated partners same (Ok x) ok fault = let are = ok g.entries same in record {
+      least_is = sym (least_next ∙ ap (λ answer. least_over least (cons_option (some_fault i.id answer) [])) are.no_fault);
+      rows_are = λ none.
+          take_more_set rows k row within
+          ∙ ap (λ front. front ++ row ∷ []) (now.rows_are none)
+          ∙ ap (λ last. map (force_row edge kernel g.entries) (take k g.bodies) ++ last ∷ []) (are.row ∙ ap (force_row edge kernel g.entries) is)
+          ∙ sym (map_more (force_row edge kernel g.entries) g.bodies k i inside);
+    }
+    evaluated partners same (Err what) ok fault = record {
+      least_is = sym (least_next ∙ ap (λ answer. least_over least (cons_option (some_fault i.id answer) [])) (fault g.entries same));
+      rows_are = λ none. absurd (cc);
+    }
+
+  pub evaluated_first : (rows : List (List ℤ)) → IsEvaluated 0 None rows
+  evaluated_first rows = record { least_is = refl; rows_are = λ none. refl }
+
+  module _ (k : ℕ) (least : Option Fault) (rows : List (List ℤ)) (now : IsEvaluated k least rows) (end : k ≡ length g.bodies) (long : length rows ≡ length g.bodies) where
+    all_least : least ≡ least_over None (faults_of edge kernel g)
+    all_least = now.least_is ∙ ap (λ is. least_over None (filter_map (fault_of edge kernel g) is)) (take_all k g.bodies (omega (arith, end)))
+
+    pub is_done : least ≡ None → IsOutcome edge kernel g rows Done
+    is_done none = (
+      none_kept (faults_of edge kernel g) (sym all_least ∙ none),
+      sym (take_all k rows (omega (arith, end, long))) ∙ now.rows_are none ∙ ap (map (force_row edge kernel g.entries)) (take_all k g.bodies (omega (arith, end))),
+    )
+
+    pub is_fault : (fault : Fault) → least ≡ Some fault → IsOutcome edge kernel g rows (outcomes.Fault fault)
+    is_fault fault some = least_kept (faults_of edge kernel g) fault (sym all_least ∙ some)
+
+-- ---- group by group
+
+least_by : (xs ys : List Fault) (earlier fault : Fault) (b : Bool) → nat_le earlier.id fault.id ≡ b → IsLeast xs earlier → IsLeast ys fault → IsLeast (xs ++ ys) (lesser (Some earlier) fault)
+least_by xs ys earlier fault true e first second =
+    let h = leb-true earlier.id fault.id e in
+    rw e
+    (record {
+      among = Contains-append_left xs ys earlier first.among;
+      below = All-append (is_below earlier) xs ys first.below (All-weaker (is_below fault) (is_below earlier) (λ other le. omega (arith, h, le)) ys second.below);
+    })
+least_by xs ys earlier fault false e first second =
+    let h = leb-false earlier.id fault.id e in
+    rw e
+    (record {
+      among = Contains-append_right xs ys fault second.among;
+      below = All-append (is_below fault) xs ys (All-weaker (is_below earlier) (is_below fault) (λ other le. omega (arith, h, le)) xs first.below) second.below;
+    })
+
+-- the least of two lists of faults
+pub least_of_both : (xs ys : List Fault) (o : Option Fault) (fault : Fault) → IsLeastOrNone xs o → IsLeast ys fault → IsLeast (xs ++ ys) (lesser o fault)
+least_of_both xs ys None fault none second = subst (λ zs. IsLeast (zs ++ ys) fault) (sym none) second
+least_of_both xs ys (Some earlier) fault first second = least_by xs ys earlier fault (nat_le earlier.id fault.id) refl first second
+
+rows_under : (edge : Edge) (kernel : Kernel) (entries : List Entry) (is : List Particle)
+    → under_ids is (map (force_row edge kernel entries) is) ≡ map (λ (i : Particle). record { id = i.id; row = force_row edge kernel entries i }) is
+rows_under edge kernel entries [] = refl
+rows_under edge kernel entries (i ∷ is) = ap (λ rows. record { id = i.id; row = force_row edge kernel entries i } ∷ rows) (rows_under edge kernel entries is)
 
 module _ (edge : Edge) (kernel : Kernel) where
-  abbrev row_of : GroupList → Particle → IdRow
-  row_of g i = record { id = i.id; row = force_row edge kernel g.entries i }
+  pub found_first : IsFoundIn edge kernel [] nothing
+  found_first = record { least = refl; rows = λ none. refl }
 
-  module _ (g : GroupList) (i : Particle) (is : List Particle) (o : Option What) (has : force_fault edge kernel g.entries i ≡ o) where
-    one_more : (found : FoundSoFar) → fold (with_particle edge kernel g.entries) found (i ∷ is) ≡ fold (with_particle edge kernel g.entries) (with_answer found i.id (force_row edge kernel g.entries i) o) is
-    one_more found = ap (λ answer. fold (with_particle edge kernel g.entries) (with_answer found i.id (force_row edge kernel g.entries i) answer) is) has
+  module _ (before : List GroupList) (found : FoundSoFar) (now : IsFoundIn edge kernel before found) (g : GroupList) where
+    faults_after : faults_in edge kernel (before ++ g ∷ []) ≡ faults_in edge kernel before ++ faults_of edge kernel g
+    faults_after =
+        flat_map-append (λ l. filter_map (fault_of edge kernel l) l.bodies) before (g ∷ [])
+        ∙ ap (λ l. faults_in edge kernel before ++ l) (append-nil (faults_of edge kernel g))
 
-    faults_more : filter_map (fault_of edge kernel g) (i ∷ is) ≡ cons_option (option_map (λ what. record { id = i.id; what = what }) o) (filter_map (fault_of edge kernel g) is)
-    faults_more = ap (λ answer. cons_option (option_map (λ what. record { id = i.id; what = what }) answer) (filter_map (fault_of edge kernel g) is)) has
+    rows_after : rows_in edge kernel (before ++ g ∷ []) ≡ rows_in edge kernel before ++ map (λ i. record { id = i.id; row = force_row edge kernel g.entries i }) g.bodies
+    rows_after =
+        flat_map-append (λ l. map (λ i. record { id = i.id; row = force_row edge kernel l.entries i }) l.bodies) before (g ∷ [])
+        ∙ ap (λ l. rows_in edge kernel before ++ l) (append-nil (map (λ i. record { id = i.id; row = force_row edge kernel g.entries i }) g.bodies))
 
-  least_with : (g : GroupList) (found : FoundSoFar) (i : Particle) (is : List Particle) (o : Option What) → force_fault edge kernel g.entries i ≡ o
-      → ((f : FoundSoFar) → (fold (with_particle edge kernel g.entries) f is).least ≡ least_over f.least (filter_map (fault_of edge kernel g) is))
-      → (fold (with_particle edge kernel g.entries) found (i ∷ is)).least ≡ least_over found.least (filter_map (fault_of edge kernel g) (i ∷ is))
-  least_with g found i is None e more =
-      ap (λ (f : FoundSoFar). f.least) (one_more g i is None e found) ∙ more (with_row found (row_of g i))
-      ∙ ap (least_over found.least) (sym (faults_more g i is None e))
-  least_with g found i is (Some what) e more =
-      ap (λ (f : FoundSoFar). f.least) (one_more g i is (Some what) e found) ∙ more (with_fault found (record { id = i.id; what = what }))
-      ∙ ap (least_over found.least) (sym (faults_more g i is (Some what) e))
+    pub found_done : (rows : List (List ℤ)) → IsOutcome edge kernel g rows Done → (new : FoundSoFar) → new ≡ with_rows found g.bodies rows → IsFoundIn edge kernel (before ++ g ∷ []) new
+    found_done rows done new e =
+        let same : faults_in edge kernel (before ++ g ∷ []) ≡ faults_in edge kernel before =
+        faults_after ∙ ap (λ l. faults_in edge kernel before ++ l) done.0 ∙ append-nil (faults_in edge kernel before) in
+        subst (IsFoundIn edge kernel (before ++ g ∷ [])) (sym e)
+        (record {
+          least = subst (λ faults. IsLeastOrNone faults found.least) (sym same) now.least;
+          rows = λ none.
+              ap (λ l. l ++ under_ids g.bodies rows) (now.rows none)
+              ∙ ap (λ l. rows_in edge kernel before ++ l) (ap (under_ids g.bodies) done.1 ∙ rows_under edge kernel g.entries g.bodies)
+              ∙ sym rows_after;
+        })
 
-  least_in_group : (g : GroupList) (found : FoundSoFar) (is : List Particle)
-      → (fold (with_particle edge kernel g.entries) found is).least ≡ least_over found.least (filter_map (fault_of edge kernel g) is)
-  least_in_group g found [] = refl
-  least_in_group g found (i ∷ is) = least_with g found i is (force_fault edge kernel g.entries i) refl (λ f. least_in_group g f is)
+    pub found_fault : (fault : Fault) → IsLeast (faults_of edge kernel g) fault → (new : FoundSoFar) → new ≡ with_fault found fault → IsFoundIn edge kernel (before ++ g ∷ []) new
+    found_fault fault least new e =
+        subst (IsFoundIn edge kernel (before ++ g ∷ [])) (sym e)
+        (record {
+          least = subst (λ faults. IsLeast faults (lesser found.least fault)) (sym faults_after) (least_of_both (faults_in edge kernel before) (faults_of edge kernel g) found.least fault now.least least);
+          rows = λ none. absurd (cc);
+        })
 
-  rows_with : (g : GroupList) (found : FoundSoFar) (i : Particle) (is : List Particle) (o : Option What) → force_fault edge kernel g.entries i ≡ o
-      → ((f : FoundSoFar) → filter_map (fault_of edge kernel g) is ≡ [] → (fold (with_particle edge kernel g.entries) f is).rows ≡ f.rows ++ map (row_of g) is)
-      → filter_map (fault_of edge kernel g) (i ∷ is) ≡ [] → (fold (with_particle edge kernel g.entries) found (i ∷ is)).rows ≡ found.rows ++ map (row_of g) (i ∷ is)
-  rows_with g found i is None e more none =
-      ap (λ (f : FoundSoFar). f.rows) (one_more g i is None e found)
-      ∙ more (with_row found (row_of g i)) (sym (faults_more g i is None e) ∙ none)
-      ∙ append_assoc found.rows (row_of g i ∷ []) (map (row_of g) is)
-  rows_with g found i is (Some what) e more none = let some = sym (faults_more g i is (Some what) e) ∙ none in absurd (cc)
+  -- ---- the answers
 
-  rows_in_group : (g : GroupList) (found : FoundSoFar) (is : List Particle) → filter_map (fault_of edge kernel g) is ≡ []
-      → (fold (with_particle edge kernel g.entries) found is).rows ≡ found.rows ++ map (row_of g) is
-  rows_in_group g found [] none = sym (append-nil found.rows)
-  rows_in_group g found (i ∷ is) none = rows_with g found i is (force_fault edge kernel g.entries i) refl (λ f. rows_in_group g f is) none
-
-  -- ---- group by group
-
-  least_in : (groups : List GroupList) (found : FoundSoFar) → (fold (with_group edge kernel) found groups).least ≡ least_over found.least (faults_in edge kernel groups)
-  least_in [] found = refl
-  least_in (g ∷ groups) found =
-      least_in groups (with_group edge kernel found g)
-      ∙ ap (λ o. least_over o (faults_in edge kernel groups)) (least_in_group g found g.bodies)
-      ∙ sym (fold-append (λ sofar fault. Some (lesser sofar fault)) found.least (filter_map (fault_of edge kernel g) g.bodies) (faults_in edge kernel groups))
-
-  rows_from : (groups : List GroupList) (found : FoundSoFar) → faults_in edge kernel groups ≡ [] → (fold (with_group edge kernel) found groups).rows ≡ found.rows ++ rows_in edge kernel groups
-  rows_from [] found none = sym (append-nil found.rows)
-  rows_from (g ∷ groups) found none =
-      let parts = parts_empty (filter_map (fault_of edge kernel g) g.bodies) (faults_in edge kernel groups) none in
-      rows_from groups (with_group edge kernel found g) parts.1
-      ∙ ap (λ rows. rows ++ rows_in edge kernel groups) (rows_in_group g found g.bodies parts.0)
-      ∙ append_assoc found.rows (map (row_of g) g.bodies) (rows_in edge kernel groups)
-
-  ids_in_group : (g : GroupList) (is : List Particle) → map (λ r. r.id) (map (row_of g) is) ≡ map (λ i. i.id) is
-  ids_in_group g [] = refl
-  ids_in_group g (i ∷ is) = ap (λ ids. i.id ∷ ids) (ids_in_group g is)
+  ids_in_group : (entries : List Entry) (is : List Particle) → map (λ (r : IdRow). r.id) (map (λ (i : Particle). record { id = i.id; row = force_row edge kernel entries i }) is) ≡ map (λ (i : Particle). i.id) is
+  ids_in_group entries [] = refl
+  ids_in_group entries (i ∷ is) = ap (λ ids. i.id ∷ ids) (ids_in_group entries is)
 
   ids_of_rows : (groups : List GroupList) → map (λ r. r.id) (rows_in edge kernel groups) ≡ map (λ i. i.id) (bodies_in groups)
   ids_of_rows [] = refl
   ids_of_rows (g ∷ groups) =
-      map-append (λ (r : IdRow). r.id) (map (row_of g) g.bodies) (rows_in edge kernel groups)
-      ∙ ap (λ ids. ids ++ map (λ r. r.id) (rows_in edge kernel groups)) (ids_in_group g g.bodies)
+      map-append (λ (r : IdRow). r.id) (map (λ i. record { id = i.id; row = force_row edge kernel g.entries i }) g.bodies) (rows_in edge kernel groups)
+      ∙ ap (λ ids. ids ++ map (λ r. r.id) (rows_in edge kernel groups)) (ids_in_group g.entries g.bodies)
       ∙ ap (λ ids. map (λ i. i.id) g.bodies ++ ids) (ids_of_rows groups)
       ∙ sym (map-append (λ (i : Particle). i.id) g.bodies (bodies_in groups))
 
-  -- ---- the answers
+  module _ (groups : List GroupList) (found : FoundSoFar) (is : IsFoundIn edge kernel groups found) where
+    no_fault_found : (o : Option Fault) → IsLeastOrNone (faults_in edge kernel groups) o → o ≡ None → faults_in edge kernel groups ≡ []
+    no_fault_found None none e = none
+    no_fault_found (Some fault) least e = absurd (cc)
 
-  module _ (groups : List GroupList) (found : FoundSoFar) (is : found ≡ fold (with_group edge kernel) nothing groups) where
-    pub no_fault_found : found.least ≡ None → faults_in edge kernel groups ≡ []
-    no_fault_found e = none_kept (faults_in edge kernel groups) (sym (ap (λ (f : FoundSoFar). f.least) is ∙ least_in groups nothing) ∙ e)
-
-    pub rows_found : found.least ≡ None → found.rows ≡ rows_in edge kernel groups
-    rows_found e = ap (λ (f : FoundSoFar). f.rows) is ∙ rows_from groups nothing (no_fault_found e)
+    fault_found : (o : Option Fault) (fault : Fault) → IsLeastOrNone (faults_in edge kernel groups) o → o ≡ Some fault → IsLeast (faults_in edge kernel groups) fault
+    fault_found None fault none e = absurd (cc)
+    fault_found (Some other) fault least e = let same : other ≡ fault = cc in subst (IsLeast (faults_in edge kernel groups)) same least
 
     pub distinct_rows : AreBodies (bodies_in groups) → found.least ≡ None → IsDistinct nat_eq (map (λ r. r.id) found.rows)
     distinct_rows are e =
         let P : List ℕ → Type 0 = IsDistinct nat_eq in
-        subst P (sym (ap (map (λ (r : IdRow). r.id)) (rows_found e) ∙ ids_of_rows groups)) are.distinct
+        subst P (sym (ap (map (λ (r : IdRow). r.id)) (is.rows e) ∙ ids_of_rows groups)) are.distinct
 
-    pub stop_found : (stop : PhaseFault) → IsLeastOf found.least stop → StopsPhase edge kernel groups stop
-    stop_found (Numeric fault) e =
-        let least = least_kept (faults_in edge kernel groups) fault (sym (ap (λ (f : FoundSoFar). f.least) is ∙ least_in groups nothing) ∙ e) in
-        (least.among, least.below)
+    stop_found : (stop : PhaseFault) → IsLeastOf found.least stop → StopsPhase edge kernel groups stop
+    stop_found (Numeric fault) e = let least = fault_found found.least fault is.least e in (least.among, least.below)
     stop_found Memory e = tt
 
     pub rows_answer : {V : Type 0} (items : V → List IdRow) (r : Result V PhaseFault) → IfOk r (λ v. items v ≡ in_order_of_id found.rows) → OnOk r (found.least ≡ None) → IfOk r (λ v. items v ≡ rows_by_id edge kernel groups)
-    rows_answer items (Ok v) e none = e ∙ ap in_order_of_id (rows_found none)
+    rows_answer items (Ok v) e none = e ∙ ap in_order_of_id (is.rows none)
     rows_answer items (Err stop) e none = tt
 
     pub none_answer : {V : Type 0} (r : Result V PhaseFault) → OnOk r (found.least ≡ None) → OnOk r (faults_in edge kernel groups ≡ [])
-    none_answer (Ok v) none = no_fault_found none
+    none_answer (Ok v) none = no_fault_found found.least is.least none
     none_answer (Err stop) none = tt
 
     pub stop_answer : {V : Type 0} (r : Result V PhaseFault) → IfErr r (λ stop. IsLeastOf found.least stop) → IfErr r (StopsPhase edge kernel groups)
@@ -189,28 +248,34 @@ module _ (edge : Edge) (kernel : Kernel) where
 
 -- the lists of all ranks, at the end of a loop over them
 pub all_lists : {H : Type 0} (edge : Edge) (kernel : Kernel) (has : H → List GroupList) (lists : List H) (k : ℕ) (found : FoundSoFar) → length lists ≤ k
-    → found ≡ fold (with_group edge kernel) nothing (flat_map has (take k lists)) → found ≡ fold (with_group edge kernel) nothing (flat_map has lists)
-all_lists edge kernel has lists k found h e = e ∙ ap (λ l. fold (with_group edge kernel) nothing (flat_map has l)) (take_all k lists h)
+    → IsFoundIn edge kernel (flat_map has (take k lists)) found → IsFoundIn edge kernel (flat_map has lists) found
+all_lists edge kernel has lists k found h is = subst (λ l. IsFoundIn edge kernel (flat_map has l) found) (take_all k lists h) is
 
--- ---- the answer of one particle
-
-pub row_added : (edge : Edge) (kernel : Kernel) (entries : List Entry) (i : Particle) (old new : FoundSoFar) (row : List ℤ) → AreForces edge kernel entries i row
-    → new ≡ with_row old (record { id = i.id; row = row }) → new ≡ with_particle edge kernel entries old i
-row_added edge kernel entries i old new row are e =
-    e ∙ ap (λ numbers. with_row old (record { id = i.id; row = numbers })) are.row
-    ∙ sym (ap (with_answer old i.id (force_row edge kernel entries i)) are.no_fault)
-
-pub fault_added : (edge : Edge) (kernel : Kernel) (entries : List Entry) (i : Particle) (old new : FoundSoFar) (what : What) → force_fault edge kernel entries i ≡ Some what
-    → new ≡ with_fault old (record { id = i.id; what = what }) → new ≡ with_particle edge kernel entries old i
-fault_added edge kernel entries i old new what is e = e ∙ sym (ap (with_answer old i.id (force_row edge kernel entries i)) is)
+pub lists_more : {H : Type 0} (has : H → List GroupList) (lists : List H) (k : ℕ) (h : H) (own : List GroupList) → k < length lists → h ≡ get_or lists k h → own ≡ has h
+    → flat_map has (take k lists) ++ own ≡ flat_map has (take (k + 1) lists)
+lists_more has lists k h own inside is e =
+    ap (λ l. flat_map has (take k lists) ++ l) (e ∙ sym (append-nil (has h)))
+    ∙ sym (flat_map-append has (take k lists) (h ∷ []))
+    ∙ ap (flat_map has) (ap (λ x. take k lists ++ x ∷ []) is ∙ sym (take_more lists k h inside))
 
 -- ---- a group among the lists of a rank
 
-pub group_at : (lists : List GroupList) (n : ℕ) (entries : List Entry) (bodies : List Particle) → slice_get (map (λ l. l.entries) lists) n ≡ Some entries → slice_get (map (λ l. l.bodies) lists) n ≡ Some bodies
-    → (d : GroupList) → get_or lists n d ≡ record { bodies = bodies; entries = entries }
-group_at [] n entries bodies e b d = absurd (cc)
-group_at (l ∷ lists) zero entries bodies e b d =
-    let same : l.entries ≡ entries = cc in
-    let alike : l.bodies ≡ bodies = cc in
-    λ i. record { bodies = alike i; entries = same i }
-group_at (l ∷ lists) (suc n) entries bodies e b d = group_at lists n entries bodies e b d
+-- the groups before the next one
+pub one_more : (lists : List GroupList) (n : ℕ) (g : GroupList) → n < length lists → slice_get lists n ≡ Some g → take (n + 1) lists ≡ take n lists ++ g ∷ []
+one_more [] n g h e = absurd (omega (arith, h))
+one_more (l ∷ lists) zero g h e = let one : l ≡ g = cc in ap (λ x. x ∷ []) one
+one_more (l ∷ lists) (suc n) g h e = let next : suc n + 1 ≡ suc (n + 1) = omega arith in ap (λ m. take m (l ∷ lists)) next ∙ ap (λ rest. l ∷ rest) (one_more lists n g (omega (arith, h)) e)
+
+pub group_exists : (lists : List GroupList) (n : ℕ) → n < length lists → (g : GroupList) × (slice_get lists n ≡ Some g)
+group_exists [] n h = absurd (omega (arith, h))
+group_exists (l ∷ lists) zero h = (l, refl)
+group_exists (l ∷ lists) (suc n) h = group_exists lists n (omega (arith, h))
+
+-- what a group has, where the same is taken of each group
+pub part_at : {Y : Type 0} (f : GroupList → Y) (lists : List GroupList) (n : ℕ) (g : GroupList) (y : Y) → slice_get lists n ≡ Some g → slice_get (map f lists) n ≡ Some y → y ≡ f g
+part_at f [] n g y e h = absurd (cc)
+part_at f (l ∷ lists) zero g y e h =
+    let one : l ≡ g = cc in
+    let same : f l ≡ y = cc in
+    sym same ∙ ap f one
+part_at f (l ∷ lists) (suc n) g y e h = part_at f lists n g y e h

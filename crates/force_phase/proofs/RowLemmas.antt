@@ -1,7 +1,7 @@
 -- The rows of tallies are forces.
 use Rattle.std.proofs.Common.{◌≡◌, ℕ, ◌+◌, ◌<◌, ◌≤◌, ◌^◌, length, length-append, Result, Ok, Err, ℤ, pos, ◌+ℤ◌, Bool, true, false, List, [], ◌∷◌, ◌++◌, Option, Some, None, map, flat_map, refl, sym, ap, ◌∙◌, arith}
 use Rattle.std.specs.List.{fold, list_all, enumerate_from}
-use Rattle.std.specs.Prelude.{slice_index_or, IfOk, IfErr, OnOk}
+use Rattle.std.specs.Prelude.{slice_index_or, IfErr, OnOk}
 use Rattle.std.proofs.lemmas.Int.{ints}
 use Rattle.std.proofs.lemmas.List.Sums.{fold-append}
 use Rattle.pf_geom.specs.declared.edge.Edge.{Edge}
@@ -27,10 +27,7 @@ use Rattle.kern_meaning.specs.Values.{components}
 use Rattle.run_model.specs.declared.fault.What.{What}
 use Rattle.run_model.specs.Force.{combined, contributions, axes_of, force_over, force_row, force_fault, sum_fault, first_given, pair_fault, pairs_of}
 use Rattle.force_phase.specs.declared.partner.Partner.{Partner}
-use Rattle.force_phase.specs.declared.force.ForceStop.{ForceStop}
-use Rattle.force_phase.specs.declared.force.ForceStop.TheVariants.{Fault, Memory}
-use Rattle.force_phase.specs.Forces.{AreForces, StopsForces}
-use Rattle.force_phase.specs.Stops.{IsSumFault}
+use Rattle.force_phase.specs.Forces.{AreForces}
 use Rattle.force_phase.specs.Gathered.{with_values, with_pairs, each_with, nothing_yet}
 use Rattle.force_phase.specs.Partner.{pairs_by, partner_of}
 use Rattle.force_phase.specs.Rows.{numbers_of, row_of, row_fault}
@@ -169,13 +166,12 @@ forces_fit kernel h =
 
 module _ (edge : Edge) (kernel : Kernel) (i : Particle) (partners : List Partner) (tallies : List Tallied) (none : first_given pair_fault (pairs_by edge kernel i partners) ≡ None)
     (gathered : tallies ≡ each_with (with_pairs kernel (pairs_by edge kernel i partners)) (forces_of kernel.decls) (nothing_yet (forces_of kernel.decls))) where
-  pub forces_answer : {V : Type 0} (items : V → List ℤ) (r : Result V ForceStop) → IfOk r (λ v. items v ≡ row_of (forces_of kernel.decls) tallies) → OnOk r (row_fault 1 (forces_of kernel.decls) tallies ≡ None)
-      → IfOk r (λ v. (entries : List Entry) → partners ≡ map partner_of entries → AreForces edge kernel entries i (items v))
-  forces_answer items (Ok v) a b = λ entries are. forces_found edge kernel i entries partners are tallies none gathered (items v) a b
-  forces_answer items (Err e) a b = tt
+  pub forces_answer : {V : Type 0} (row : List ℤ) (r : Result V What) → OnOk r (row ≡ row_of (forces_of kernel.decls) tallies) → OnOk r (row_fault 1 (forces_of kernel.decls) tallies ≡ None)
+      → OnOk r ((entries : List Entry) → partners ≡ map partner_of entries → AreForces edge kernel entries i row)
+  forces_answer row (Ok v) a b = λ entries are. forces_found edge kernel i entries partners are tallies none gathered row a b
+  forces_answer row (Err e) a b = tt
 
-  pub stop_answer : {V : Type 0} (r : Result V ForceStop) → IfErr r (IsSumFault (forces_of kernel.decls) tallies)
-      → IfErr r (λ stop. (entries : List Entry) → partners ≡ map partner_of entries → StopsForces edge kernel entries i stop)
+  pub stop_answer : {V : Type 0} (r : Result V What) → IfErr r (λ what. row_fault 1 (forces_of kernel.decls) tallies ≡ Some what)
+      → IfErr r (λ what. (entries : List Entry) → partners ≡ map partner_of entries → force_fault edge kernel entries i ≡ Some what)
   stop_answer (Ok v) a = tt
-  stop_answer (Err (Fault w)) a = λ entries are. sum_stops edge kernel i entries partners are tallies none gathered w a
-  stop_answer (Err Memory) a = λ entries are. tt
+  stop_answer (Err w) a = λ entries are. sum_stops edge kernel i entries partners are tallies none gathered w a

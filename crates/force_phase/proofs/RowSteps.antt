@@ -1,10 +1,11 @@
 -- The numbers of tallies, variable after variable.
-use Rattle.std.proofs.Common.{◌≡◌, ℕ, zero, suc, ◌+◌, ◌<◌, ℤ, true, false, List, [], ◌∷◌, ◌++◌, length, get_or, drop, Some, None, refl, sym, ap, ◌∙◌, append_assoc, arith}
+use Rattle.std.proofs.Common.{◌≡◌, ℕ, zero, suc, ◌+◌, ◌<◌, ℤ, true, false, List, [], ◌∷◌, ◌++◌, length, get_or, take, drop, Some, None, refl, sym, ap, ◌∙◌, append_assoc, arith}
 use Rattle.std.specs.List.{list_all}
 use Rattle.std.proofs.lemmas.List.{drop_all, append-nil}
 use Rattle.pf_num.specs.Exact.{is_i64}
 use Rattle.kern_types.specs.declared.force_var.ForceVar.{ForceVar}
 use Rattle.run_model.specs.declared.fault.What.TheVariants as what
+use Rattle.force_phase.specs.Outcome.{row_width}
 use Rattle.force_phase.specs.Rows.{numbers_of, row_of, row_fault}
 use Rattle.force_phase.specs.Tally.{Tallied}
 
@@ -50,3 +51,11 @@ module _ (forces : List ForceVar) (tallies : List Tallied) where
         sym (append-nil row) ∙ ap (λ vs. row ++ row_of vs (drop k tallies)) (sym none) ∙ now.numbers,
         sym now.fault ∙ ap (λ vs. row_fault (k + 1) vs (drop k tallies)) none,
       )
+
+-- ---- the numbers in their places
+
+module _ (forces : List ForceVar) (tallies : List Tallied) where
+  -- and the places that they take
+  pub record IsRowPlaced (k place : ℕ) (numbers : List ℤ) : Type 0 where
+    pub so_far : IsRowSoFar forces tallies k (take place numbers)
+    pub room : place + row_width (drop k forces) ≡ length numbers

@@ -1,14 +1,9 @@
--- What the particles visited so far gave: forces, or faults of which the least is kept.
-use Rattle.std.specs.Prelude.{◌≡◌, ℕ, ℤ, List, [], ◌∷◌, ◌++◌, Option, Some, None, fold, nat_lt, nat_le, if◌then◌else◌}
-use Rattle.pf_geom.specs.declared.edge.Edge.{Edge}
-use Rattle.pf_model.specs.declared.entry.Entry.{Entry}
+-- What the groups finished so far gave: forces, or faults of which the least is kept.
+use Rattle.std.specs.Prelude.{◌≡◌, ℤ, List, [], ◌++◌, Option, Some, None, map, nat_lt, nat_le, if◌then◌else◌}
+use Rattle.std.specs.List.{zip}
 use Rattle.pf_model.specs.Order.{in_order_once}
 use Rattle.pf_model.specs.Particle.{Particle}
-use Rattle.kern_tree.specs.declared.kernel.Kernel.{Kernel}
-use Rattle.group_lists.specs.Whole.{GroupList}
 use Rattle.run_model.specs.declared.fault.Fault.{Fault}
-use Rattle.run_model.specs.declared.fault.What.{What}
-use Rattle.run_model.specs.Force.{force_row, force_fault}
 use Rattle.force_phase.specs.declared.phase.IdRow.{IdRow}
 use Rattle.force_phase.specs.declared.phase.PhaseFault.{PhaseFault}
 use Rattle.force_phase.specs.declared.phase.PhaseFault.TheVariants.{Numeric, Memory}
@@ -18,7 +13,7 @@ pub record FoundSoFar : Type 0 where
   pub rows : List IdRow
   pub least : Option Fault
 
--- before the first particle
+-- before the first group
 abbrev pub nothing : FoundSoFar
 nothing = record { rows = []; least = None }
 
@@ -27,27 +22,17 @@ abbrev pub lesser : Option Fault → Fault → Fault
 lesser None fault = fault
 lesser (Some earlier) fault = if nat_le earlier.id fault.id then earlier else fault
 
--- the forces on one particle more
-abbrev pub with_row : FoundSoFar → IdRow → FoundSoFar
-with_row found row = record found { rows = found.rows ++ row ∷ [] }
+-- the rows of particles, which stand in the same order, under their ids
+abbrev pub under_ids : List Particle → List (List ℤ) → List IdRow
+under_ids bodies rows = map (λ both. record { id = both.0.id; row = both.1 }) (zip bodies rows)
 
--- or its fault
+-- the forces on one group more
+abbrev pub with_rows : FoundSoFar → List Particle → List (List ℤ) → FoundSoFar
+with_rows found bodies rows = record found { rows = found.rows ++ under_ids bodies rows }
+
+-- or its least fault
 abbrev pub with_fault : FoundSoFar → Fault → FoundSoFar
 with_fault found fault = record found { least = Some (lesser found.least fault) }
-
--- one or the other, by whether it has a fault
-abbrev pub with_answer : FoundSoFar → ℕ → List ℤ → Option What → FoundSoFar
-with_answer found id row None = with_row found (record { id = id; row = row })
-with_answer found id row (Some what) = with_fault found (record { id = id; what = what })
-
--- one particle more, by its list
-abbrev pub with_particle : Edge → Kernel → List Entry → FoundSoFar → Particle → FoundSoFar
-with_particle edge kernel entries found i =
-    with_answer found i.id (force_row edge kernel entries i) (force_fault edge kernel entries i)
-
--- all particles of one group more
-abbrev pub with_group : Edge → Kernel → FoundSoFar → GroupList → FoundSoFar
-with_group edge kernel found g = fold (with_particle edge kernel g.entries) found g.bodies
 
 -- rows by ascending id
 abbrev pub in_order_of_id : List IdRow → List IdRow

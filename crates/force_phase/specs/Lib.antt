@@ -3,7 +3,8 @@ pub mod Targets
 pub mod Partner
 pub mod Gathered
 pub mod Rows
-pub mod Stops
 pub mod Forces
 pub mod Found
 pub mod Phase
+pub mod Outcome
+pub mod Finished

@@ -1,9 +1,10 @@
 ghost use Rattle.std.specs.Prelude.{◌≡◌, ◌≤◌, ◌^◌, ◌<◌, List, None, Some, OnOk, IfOk, IfErr, length, map};
 ghost use Rattle.pf_model.specs.declared.entry.Entry.{Entry as ListEntry};
 ghost use Rattle.kern_types.specs.Declarations.{forces_of};
-ghost use Rattle.run_model.specs.Force.{first_given, pair_fault};
-ghost use Rattle.force_phase.specs.Forces.{AreForces, StopsForces};
+ghost use Rattle.run_model.specs.Force.{first_given, force_fault, pair_fault};
+ghost use Rattle.force_phase.specs.Forces.{AreForces};
 ghost use Rattle.force_phase.specs.Gathered.{IsReady, each_with, with_pairs, nothing_yet as nothing_of};
+ghost use Rattle.force_phase.specs.Outcome.{IsWorkFor, row_width};
 ghost use Rattle.force_phase.specs.Partner.{is_another, pairs_by, partner_of};
 
 use crate::gathered::{clear, gather, nothing_yet};
@@ -20,73 +21,64 @@ use pf_geom::Edge;
 use pf_model::{Body, MOST_PARTICLES};
 use pf_num::OutOfMemory;
 use run_model::What;
-use std::alloc::{AllocError, Global};
-
-/// Why a particle has no forces.
-#[derive(Clone, Copy, Debug, PartialEq, Eq)]
-pub(crate) enum ForceStop {
-    /// The first fault of its pairs or of its sums.
-    Fault(What),
-    /// Memory ran out.
-    Memory,
-}
-
-impl From<AllocError> for ForceStop {
-    ghost use Rattle.std.specs.Prelude.{◌≡◌};
-    ghost use Rattle.force_phase.specs.declared.force.ForceStop.TheVariants.{Memory};
-
-    ghost from_gives = { λ _ stop. stop ≡ Memory };
-
-    fn from(_error: AllocError) -> ForceStop {
-        ForceStop::Memory
-    }
-}
+use std::alloc::Global;
 
 /// What is kept for the pairs of a kernel.
 #[derive(Drop)]
-pub(crate) struct Work {
+pub(crate) struct PairRoom {
     pub(crate) scratch: Scratch,
     pub(crate) targets: Vec<Name>,
     pub(crate) tallies: Vec<Tally>,
 }
 
-impl Work {
-    /// Room for the pairs of a kernel.
-    pub(crate) fn for_kernel(alloc: Global, t: &Typed) -> Result<Work, OutOfMemory>
-        ensures { IfOk result (λ work. IsReady t.now work.scratch work.targets.items (length work.tallies.items)) }
-    {
-        Ok(Work {
+/// What a worker keeps for the forces by a kernel, in a box of this edge.
+#[derive(Drop)]
+pub struct Work {
+    pub(crate) edge: Edge,
+    pub(crate) room: PairRoom,
+}
+
+/// Room for the pairs of a kernel, in a box of this edge.
+pub fn work_for(alloc: Global, t: &Typed, edge: Edge) -> Result<Work, OutOfMemory>
+    ensures work { IfOk result (IsWorkFor t.now) }
+    ensures edge { IfOk result (λ work. work.edge ≡ edge) }
+{
+    Ok(Work {
+        edge,
+        room: PairRoom {
             scratch: for_kernel(alloc, t)?,
             targets: targets_of(alloc, kernel(t).body.as_slice())?,
             tallies: nothing_yet(alloc, forces(t))?,
-        })
-    }
+        },
+    })
 }
 
-/// The forces on a particle by its partners, which a list of entries has: the numbers of all FORCE
-/// variables, in order of declaration. `Fault` is the first pair that faults, by list place, or where
+/// Writes the forces on a particle by its partners, which a list of entries has: the numbers of all FORCE
+/// variables, in order of declaration. Its fault is the first pair that faults, by list place, or where
 /// none does the first FORCE variable whose sum isn't an `i64`.
 pub(crate) fn forces_on(
-    alloc: Global,
     t: &Typed,
     edge: Edge,
     partners: &[Partner],
     i: &Body,
-    work: &mut Work,
-) -> Result<Vec<i64>, ForceStop>
+    work: &mut PairRoom,
+    numbers: &mut [i64],
+) -> Result<(), What>
     requires few { length partners.now ≤ MOST_PARTICLES }
     requires ready { IsReady t.now work.old.scratch work.old.targets.items (length work.old.tallies.items) }
+    requires width { length numbers.old ≡ row_width (forces_of t.now.decls) }
     ensures ready { IsReady t.now work.new.scratch work.new.targets.items (length work.new.tallies.items) }
-    ensures ok { IfOk result (λ row. (entries : List ListEntry) → partners.now ≡ map partner_of entries
-        → AreForces edge t.now entries i.now row.items) }
-    ensures fault { IfErr result (λ stop. (entries : List ListEntry) → partners.now ≡ map partner_of entries
-        → StopsForces edge t.now entries i.now stop) }
+    ensures width { length numbers.new ≡ length numbers.old }
+    ensures ok { OnOk result ((entries : List ListEntry) → partners.now ≡ map partner_of entries
+        → AreForces edge t.now entries i.now numbers.new) }
+    ensures fault { IfErr result (λ what. (entries : List ListEntry) → partners.now ≡ map partner_of entries
+        → force_fault edge t.now entries i.now ≡ Some what) }
 {
     parsed_kernels_keep_limits();
     let _kernel = kernel(t);
     match gather_pairs(t, edge, partners, i, work) {
-        Ok(()) => row(alloc, forces(t), &work.tallies),
-        Err(what) => Err(ForceStop::Fault(what)),
+        Ok(()) => row(forces(t), &work.tallies, numbers),
+        Err(what) => Err(what),
     }
 }
 
@@ -96,7 +88,7 @@ fn gather_pairs(
     edge: Edge,
     partners: &[Partner],
     i: &Body,
-    work: &mut Work,
+    work: &mut PairRoom,
 ) -> Result<(), What>
     requires few { length partners.now ≤ MOST_PARTICLES }
     requires ready { IsReady t.now work.old.scratch work.old.targets.items (length work.old.tallies.items) }

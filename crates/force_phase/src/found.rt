@@ -1,13 +1,14 @@
-ghost use Rattle.std.specs.Prelude.{◌≡◌, OnOk, IfOk, IfErr, None, map, nat_eq};
+ghost use Rattle.std.specs.Prelude.{◌≡◌, ◌++◌, OnOk, IfOk, IfErr, None, map, nat_eq};
 ghost use Rattle.std.specs.List.{IsDistinct};
 ghost use Rattle.force_phase.specs.Found as rules;
 
 use crate::phase::{IdRow, PhaseFault};
+use pf_model::Body;
 use run_model::{Fault, Row};
 use std::alloc::{AllocError, Global};
 use std::marker::Model;
 
-/// What the particles visited so far gave: the forces on those without a fault, and the least fault by id.
+/// What the groups finished so far gave: the forces on those without a fault, and the least fault by id.
 #[derive(Drop)]
 pub(crate) struct Found {
     rows: Vec<IdRow>,
@@ -33,18 +34,19 @@ impl Found {
         }
     }
 
-    /// Adds the forces on a particle.
-    pub(crate) fn add_row(&mut self, id: u32, row: Vec<i64>) -> Result<(), AllocError>
-        ensures { OnOk result (self.new ≡ rules.with_row self.old (record { id = id; row = row.items })) }
+    /// Adds the forces on the particles of a group, in their order.
+    pub(crate) fn add_rows(
+        &mut self,
+        alloc: Global,
+        bodies: &[Body],
+        rows: Vec<Row>,
+    ) -> Result<(), AllocError>
+        ensures { OnOk result (self.new ≡ rules.with_rows self.old bodies.now rows.items) }
     {
-        self.rows.push(IdRow {
-            id,
-            row: Row::from_vec(row),
-        })?;
-        Ok(())
+        add_all(&mut self.rows, under_ids(alloc, bodies, rows)?)
     }
 
-    /// Adds the fault of a particle.
+    /// Adds the least fault of a group.
     pub(crate) fn add_fault(&mut self, fault: Fault)
         ensures { self.new ≡ rules.with_fault self.old fault }
     {
@@ -69,8 +71,29 @@ impl Found {
     }
 }
 
-// The fault of the lesser id.
-fn lesser(least: Option<Fault>, fault: Fault) -> Fault
+// Adds rows after those that are there.
+fn add_all(rows: &mut Vec<IdRow>, more: Vec<IdRow>) -> Result<(), AllocError>
+    ensures { OnOk result (rows.new.items ≡ rows.old.items ++ more.items) }
+{
+    for row in more {
+        rows.push(row)?;
+    }
+    Ok(())
+}
+
+// The rows of particles, which stand in the same order, under their ids.
+fn under_ids(alloc: Global, bodies: &[Body], rows: Vec<Row>) -> Result<Vec<IdRow>, AllocError>
+    ensures { IfOk result (λ named. named.items ≡ rules.under_ids bodies.now rows.items) }
+{
+    bodies
+        .iter()
+        .zip(rows)
+        .map(|(body, row)| IdRow { id: body.id, row })
+        .collect(alloc)
+}
+
+/// The fault of the lesser id.
+pub(crate) fn lesser(least: Option<Fault>, fault: Fault) -> Fault
     ensures { result ≡ rules.lesser least fault }
 {
     match least {

@@ -5,6 +5,7 @@
 mod force;
 mod found;
 mod gathered;
+mod group_out;
 mod partner;
 mod phase;
 mod row;
@@ -12,4 +13,6 @@ mod seen;
 mod tally;
 mod targets;
 
+pub use force::{Work, work_for};
+pub use group_out::{GroupOut, Outcome, evaluate, out_for};
 pub use phase::{IdRow, PhaseFault, forces};

@@ -1,18 +1,17 @@
-ghost use Rattle.std.specs.Prelude.{◌≡◌, ◌≤◌, [], List, OnOk, IfOk, IfErr, flat_map, fold, length, map};
-ghost use Rattle.pf_model.specs.declared.entry.Entry.{Entry as ListEntry};
+ghost use Rattle.std.specs.Prelude.{◌≡◌, ◌<◌, ◌∷◌, ◌++◌, [], List, Some, OnOk, IfOk, IfErr};
+ghost use Rattle.std.specs.Prelude.{flat_map, length, slice_get};
 ghost use Rattle.pf_model.specs.Particles.{AreBodies};
-ghost use Rattle.force_phase.specs.Found.{with_group, with_particle};
-ghost use Rattle.force_phase.specs.Gathered.{IsReady};
-ghost use Rattle.force_phase.specs.Partner.{partner_of};
+ghost use Rattle.group_lists.specs.Whole.{GroupList};
+ghost use Rattle.force_phase.specs.Finished.{IsFoundIn};
+ghost use Rattle.force_phase.specs.Outcome.{IsWorkFor};
 ghost use Rattle.force_phase.specs.Phase.{StopsPhase, faults_in, bodies_in, rows_by_id};
 
-use crate::force::{ForceStop, Work, forces_on};
+use crate::force::{Work, work_for};
 use crate::found::Found;
-use crate::partner::{Partner, partners};
+use crate::group_out::{GroupOut, Outcome, evaluate, out_for};
 use group_lists::{HasLists, Lists};
 use kern_types::Typed;
 use pf_geom::Edge;
-use pf_model::{Body, MOST_PARTICLES};
 use pf_num::OutOfMemory;
 use run_model::{Fault, Row};
 use std::alloc::{AllocError, Global};
@@ -68,77 +67,58 @@ pub fn forces<H: HasLists>(
     ensures no_fault { OnOk result (faults_in edge t.now (flat_map H.has lists.now) ≡ []) }
     ensures fault { IfErr result (StopsPhase edge t.now (flat_map H.has lists.now)) }
 {
-    let mut work = Work::for_kernel(alloc, t)?;
+    let mut work = work_for(alloc, t, edge)?;
     let mut found = Found::nothing(alloc);
     for has in lists {
-        add_lists(alloc, t, edge, has.lists(), &mut work, &mut found)?;
+        add_lists(alloc, t, has.lists(), &mut work, &mut found)?;
     }
     found.answer()
 }
 
-// Adds the particles of all groups of a rank.
+// Adds what all groups of a rank give.
 fn add_lists(
     alloc: Global,
     t: &Typed,
-    edge: Edge,
     lists: &Lists,
     work: &mut Work,
     found: &mut Found,
-) -> Result<(), AllocError>
-    requires ready { IsReady t.now work.old.scratch work.old.targets.items (length work.old.tallies.items) }
-    ensures ready { IsReady t.now work.new.scratch work.new.targets.items (length work.new.tallies.items) }
-    ensures found { OnOk result (found.new ≡ fold (with_group edge t.now) found.old lists.now) }
+) -> Result<(), OutOfMemory>
+    requires work { IsWorkFor t.now work.old }
+    ensures work { IsWorkFor t.now work.new }
+    ensures edge { work.new.edge ≡ work.old.edge }
+    ensures found { OnOk result ((before : List GroupList) → IsFoundIn work.old.edge t.now before found.old
+        → IsFoundIn work.old.edge t.now (before ++ lists.now) found.new) }
 {
     for n in 0..lists.groups() {
-        let partners = partners(alloc, lists.entries(n))?;
-        add_group(alloc, t, edge, &partners, lists.group(n), work, found)?;
+        add_group(alloc, t, lists, n, work, found)?;
     }
     Ok(())
 }
 
-// Adds the particles of a group by the partners that they share.
+// Adds what a group gives.
 fn add_group(
     alloc: Global,
     t: &Typed,
-    edge: Edge,
-    partners: &[Partner],
-    bodies: &[Body],
+    lists: &Lists,
+    group: u32,
     work: &mut Work,
     found: &mut Found,
-) -> Result<(), AllocError>
-    requires few { length partners.now ≤ MOST_PARTICLES }
-    requires ready { IsReady t.now work.old.scratch work.old.targets.items (length work.old.tallies.items) }
-    ensures ready { IsReady t.now work.new.scratch work.new.targets.items (length work.new.tallies.items) }
-    ensures found { OnOk result ((entries : List ListEntry) → partners.now ≡ map partner_of entries
-        → found.new ≡ fold (with_particle edge t.now entries) found.old bodies.now) }
+) -> Result<(), OutOfMemory>
+    requires group { group < length lists.now }
+    requires work { IsWorkFor t.now work.old }
+    ensures work { IsWorkFor t.now work.new }
+    ensures edge { work.new.edge ≡ work.old.edge }
+    ensures found { OnOk result ((g : GroupList) (before : List GroupList) → slice_get lists.now group ≡ Some g
+        → IsFoundIn work.old.edge t.now before found.old
+        → IsFoundIn work.old.edge t.now (before ++ g ∷ []) found.new) }
 {
-    for body in bodies {
-        add_particle(alloc, t, edge, partners, body, work, found)?;
+    let mut out = out_for(alloc, t, lists, group)?;
+    match evaluate(t, lists, group, work, &mut out) {
+        Outcome::Done => {
+            let GroupOut { rows, .. } = out;
+            found.add_rows(alloc, lists.group(group), rows)?;
+        }
+        Outcome::Fault(fault) => found.add_fault(fault),
     }
     Ok(())
-}
-
-fn add_particle(
-    alloc: Global,
-    t: &Typed,
-    edge: Edge,
-    partners: &[Partner],
-    body: &Body,
-    work: &mut Work,
-    found: &mut Found,
-) -> Result<(), AllocError>
-    requires few { length partners.now ≤ MOST_PARTICLES }
-    requires ready { IsReady t.now work.old.scratch work.old.targets.items (length work.old.tallies.items) }
-    ensures ready { IsReady t.now work.new.scratch work.new.targets.items (length work.new.tallies.items) }
-    ensures found { OnOk result ((entries : List ListEntry) → partners.now ≡ map partner_of entries
-        → found.new ≡ with_particle edge t.now entries found.old body.now) }
-{
-    match forces_on(alloc, t, edge, partners, body, work) {
-        Ok(row) => found.add_row(body.id, row),
-        Err(ForceStop::Fault(what)) => {
-            found.add_fault(Fault { id: body.id, what });
-            Ok(())
-        }
-        Err(ForceStop::Memory) => Err(AllocError),
-    }
 }

@@ -7,7 +7,7 @@ row-requires-clause-few c =
 
 pub returns-in-Ok-clause-ok : goal.returns-in-Ok-clause-ok
 returns-in-Ok-clause-ok c =
-    forces_answer c.args.edge c.args.t.now c.args.i.now c.args.partners.now c.gather_pairs.new.work.tallies.items c.in-Ok.ensures.no_fault c.in-Ok.ensures.gathered (λ v. v.items) c.row.result
+    forces_answer c.args.edge c.args.t.now c.args.i.now c.args.partners.now c.gather_pairs.new.work.tallies.items c.in-Ok.ensures.no_fault c.in-Ok.ensures.gathered c.row.new.numbers c.row.result
     (rw (c.forces.ensures, c.deref.ensures.value) at c.row.ensures.row) (rw (c.forces.ensures, c.deref.ensures.value) at c.row.ensures.no_fault)
 
 pub returns-in-Ok-clause-fault : goal.returns-in-Ok-clause-fault

@@ -1,9 +1,12 @@
-use Rattle.std.proofs.Common.{◌≡◌, length, take, fold}
-use Rattle.force_phase.specs.Found.{with_group}
-use Rattle.force_phase.specs.Gathered.{IsReady}
+use Rattle.std.proofs.Common.{◌≡◌, ◌++◌, List, take}
+use Rattle.group_lists.specs.Whole.{GroupList}
+use Rattle.force_phase.specs.Finished.{IsFoundIn}
+use Rattle.force_phase.specs.Outcome.{IsWorkFor}
 use Rattle.force_phase.proofs.phase.add_lists.Given as goal
 
 abbrev pub invariant-loop-n : goal.invariant-loop-n
-invariant-loop-n l =
-    IsReady l.t l.work.scratch l.work.targets.items (length l.work.tallies.items)
-    × (l.found ≡ fold (with_group l.edge l.t) l.fn.found (take l.n l.lists))
+invariant-loop-n l = record {
+  work : IsWorkFor l.t l.work;
+  edge : l.work.edge ≡ l.fn.work.edge;
+  found : (before : List GroupList) → IsFoundIn l.fn.work.edge l.t before l.fn.found → IsFoundIn l.fn.work.edge l.t (before ++ take l.n l.lists) l.found;
+}
