@@ -3,6 +3,7 @@ pub mod DeclTyping
 pub mod ExprTyping
 pub mod Fits
 pub mod Layers
+pub mod LinkLemmas
 pub mod Literals
 pub mod Meanings
 pub mod NamePlaces

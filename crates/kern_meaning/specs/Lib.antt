@@ -1,4 +1,5 @@
 pub mod Expressions
+pub mod Links
 pub mod Names
 pub mod Operators
 pub mod Pair

@@ -5,10 +5,12 @@
 mod expression;
 mod fault;
 mod laws;
+mod link;
 mod numbers;
 mod operators;
 mod pairing;
 mod prepare;
+mod resolve;
 mod scratch;
 mod statement;
 mod stop;

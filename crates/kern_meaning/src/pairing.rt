@@ -6,6 +6,7 @@ ghost use Rattle.kern_meaning.specs.Values.{components as components_of};
 ghost use Rattle.kern_meaning.specs.Variables.{started_at};
 
 use crate::laws::typed_kernels_have_one_pair;
+use crate::link::Link;
 use crate::statement::Walk;
 use crate::variable::{Variable, variable_value};
 use crate::{PairFault, PairStop, Scratch, Value};
@@ -29,6 +30,7 @@ pub fn pair(t: &Typed, i: &Body, j: &Item, s: &mut Scratch) -> Result<(), PairFa
     let ended = run(
         k,
         s.names.as_slice(),
+        s.links.as_slice(),
         s.variables.as_slice(),
         i,
         j,
@@ -50,6 +52,7 @@ pub fn pair(t: &Typed, i: &Body, j: &Item, s: &mut Scratch) -> Result<(), PairFa
 fn run(
     k: &Kernel,
     names: &[Name],
+    links: &[Link],
     variables: &[Variable],
     i: &Body,
     j: &Item,
@@ -58,7 +61,7 @@ fn run(
 ) -> Result<(), PairStop>
     requires parsed { IsParsed k.now }
     requires made { IsMadeFor k.now
-        (record { names = names.now; variables = variables.now; values = values.old; given = slots.old }) }
+        (record { names = names.now; links = links.now; variables = variables.now; values = values.old; given = slots.old }) }
     ensures { MatchResult result
         (λ _. rules.pair_of k.now i.now j.now ≡ Ok slots.new)
         (λ stop. rules.pair_of k.now i.now j.now ≡ Err stop) }
@@ -71,7 +74,7 @@ fn run(
         names,
         coincident: is_same_place(i.at, j.at),
     };
-    walk.block(k.body.as_slice(), 1, 0, values, slots)?;
+    walk.block(k.body.as_slice(), links, 1, 0, values, slots)?;
     Ok(())
 }
 

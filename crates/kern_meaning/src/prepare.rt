@@ -4,6 +4,7 @@ ghost use Rattle.kern_meaning.specs.Prepared.{IsMadeFor};
 ghost use Rattle.kern_meaning.specs.Variables as rules;
 ghost use Rattle.kern_meaning.specs.Walks.{assigned_by, assigned_in, names_of as all_names};
 
+use crate::resolve::block_links;
 use crate::variable::{Variable, resolved};
 use crate::{Scratch, Value};
 use kern_token::Name;
@@ -19,11 +20,13 @@ pub fn for_kernel(alloc: Global, t: &Typed) -> Result<Scratch, OutOfMemory>
 {
     let k = kernel(t);
     let names = names_of(alloc, k)?;
+    let links = block_links(alloc, &names, k.decls.as_slice(), k.body.as_slice())?;
     let variables = variables_of(alloc, k.decls.as_slice())?;
     let values = nothing(alloc, names.len())?;
     let given = nothing(alloc, slots(t) as usize)?;
     Ok(Scratch {
         names,
+        links,
         variables,
         values,
         slots: given,

@@ -1,4 +1,5 @@
 use crate::Value;
+use crate::link::Link;
 use crate::variable::Variable;
 use kern_token::Name;
 use std::marker::Model;
@@ -8,6 +9,8 @@ use std::marker::Model;
 pub struct Scratch {
     /// The names that are declared, and then those that are assigned. A name's number is its first place.
     pub(crate) names: Vec<Name>,
+    /// What the statements are resolved to.
+    pub(crate) links: Vec<Link>,
     /// What the declarations are resolved to, by number.
     pub(crate) variables: Vec<Variable>,
     /// The values of names, by number.
@@ -23,6 +26,7 @@ impl Model for Scratch {
 
     ghost view = { λ s. record {
       names = s.names.items;
+      links = s.links.items;
       variables = s.variables.items;
       values = s.values.items;
       given = s.slots.items;

@@ -1,14 +1,15 @@
 ghost use Rattle.std.specs.Prelude.{◌≡◌, ◌+◌, ◌^◌, ◌<◌, [], ◌∷◌, Some, slice_set};
 ghost use Rattle.kern_types.specs.Names.{declaration as declaration_of};
+ghost use Rattle.kern_meaning.specs.Links as resolved;
 ghost use Rattle.kern_meaning.specs.Names.{with_value};
 ghost use Rattle.kern_meaning.specs.Pair as rules;
 ghost use Rattle.kern_meaning.specs.Walks.{HavePlaces, Runs, assigned_by, assigned_in, known_by, pair_state};
 
-use crate::expression::{contribution_of, number_of, number_value_of, truth_of};
+use crate::expression::{contribution_of, number_value_of, truth_of};
+use crate::link::{Link, force_at, later, number_at, split};
 use crate::{PairFault, PairKind, PairStop, Stop, Value};
 use kern_token::Name;
-use kern_tree::{Act, Decl, DeclKind, Stmt};
-use kern_types::{ExprType, declaration};
+use kern_tree::{Act, Decl, Stmt};
 use pf_num::NumFault;
 
 /// What the statements of a kernel need for a pair. A statement is called with its number and with the
@@ -26,6 +27,7 @@ impl Walk<'_> {
     pub(crate) fn block(
         &self,
         block: &[Stmt],
+        links: &[Link],
         first: u32,
         before: u32,
         values: &mut [Option<Value>],
@@ -36,13 +38,17 @@ impl Walk<'_> {
         requires slots { before
             + (rules.block_meaning self.now.decls.now self.now.coincident block.now).slots < 2 ^ 32 }
         requires places { HavePlaces self.now.names.now values.old (assigned_in block.now) }
+        requires links { links.now ≡ resolved.links_of_block self.now.names.now self.now.decls.now block.now }
         ensures { Runs result (rules.block_meaning self.now.decls.now self.now.coincident block.now) first before
             (pair_state self.now.names.now values.old slots.old) (pair_state self.now.names.now values.new slots.new) }
     {
         let mut number = first;
         let mut slot = before;
+        let mut rest = links;
         for stmt in block {
-            let next = self.act(&stmt.act, number, slot, values, slots)?;
+            let parts = split(rest);
+            let next = self.act(&stmt.act, parts.0, number, slot, values, slots)?;
+            rest = parts.1;
             number = next.0;
             slot = next.1;
         }
@@ -53,6 +59,7 @@ impl Walk<'_> {
     fn act(
         &self,
         act: &Act,
+        links: &[Link],
         number: u32,
         slot: u32,
         values: &mut [Option<Value>],
@@ -63,31 +70,41 @@ impl Walk<'_> {
         requires slots { slot
             + (rules.act_meaning self.now.decls.now self.now.coincident act.now).slots < 2 ^ 32 }
         requires places { HavePlaces self.now.names.now values.old (assigned_by act.now) }
+        requires links { links.now ≡ resolved.links_of_act self.now.names.now self.now.decls.now act.now }
         ensures { Runs result (rules.act_meaning self.now.decls.now self.now.coincident act.now) number slot
             (pair_state self.now.names.now values.old slots.old) (pair_state self.now.names.now values.new slots.new) }
     {
         match act {
-            Act::Set(name, value) => {
-                let held = number_value_of(value, self.names, values);
+            Act::Set(_, value) => {
+                let held = number_value_of(value, later(links), self.names, values);
                 let held = at_statement(self.coincident, number, held)?;
-                assign(self.names, name, held, values);
+                assign(values, number_at(links), held);
                 Ok((number + 1, slot))
             }
-            Act::Give(name, value) => {
-                let force = force_of(self.decls, name);
-                let given = contribution_of(value, force, self.names, values);
+            Act::Give(_, value) => {
+                let force = force_at(links);
+                let given = contribution_of(value, force, later(links), self.names, values);
                 let given = at_statement(self.coincident, number, given)?;
                 give(slots, slot, given);
                 Ok((number + 1, slot + 1))
             }
             Act::If(condition, body, others) => {
-                let holds = truth_of(condition, self.names, values);
+                let parts = split(links);
+                let blocks = split(parts.1);
+                let holds = truth_of(condition, parts.0, self.names, values);
                 if at_statement(self.coincident, number, holds)? {
-                    let end = self.block(body.as_slice(), number + 1, slot, values, slots)?;
+                    let end = self.block(
+                        body.as_slice(),
+                        blocks.0,
+                        number + 1,
+                        slot,
+                        values,
+                        slots,
+                    )?;
                     Ok(self.past(others.as_slice(), end.0, end.1))
                 } else {
                     let start = self.past(body.as_slice(), number + 1, slot);
-                    self.block(others.as_slice(), start.0, start.1, values, slots)
+                    self.block(others.as_slice(), blocks.1, start.0, start.1, values, slots)
                 }
             }
         }
@@ -137,14 +154,14 @@ impl Walk<'_> {
     }
 }
 
-// name = value;
-fn assign(names: &[Name], name: &Name, value: Value, values: &mut [Option<Value>])
-    requires { HavePlaces names.now values.old (name.now ∷ []) }
-    ensures { known_by names.now values.new ≡ with_value (known_by names.now values.old) name.now value }
+// name = value; by the name's number.
+fn assign(values: &mut [Option<Value>], number: Option<usize>, value: Value)
+    ensures { values.new ≡ resolved.assigned values.old number value }
 {
-    let place = number_of(names, name);
-    if place < values.len() {
-        values[place] = Some(value);
+    if let Some(number) = number {
+        if number < values.len() {
+            values[number] = Some(value);
+        }
     }
 }
 
@@ -155,25 +172,6 @@ fn give(slots: &mut [Option<Value>], slot: u32, value: Value)
     let slot = slot as usize;
     if slot < slots.len() {
         slots[slot] = Some(value);
-    }
-}
-
-// The kind and the scale of a FORCE variable of this name.
-fn force_of(decls: &[Decl], name: &Name) -> Option<ExprType>
-    ensures { result ≡ rules.force_type (declaration_of decls.now name.now) }
-{
-    match declaration(decls, name.as_bytes()) {
-        Some(decl) => force_type(&decl.what),
-        None => None,
-    }
-}
-
-fn force_type(what: &DeclKind) -> Option<ExprType>
-    ensures { result ≡ rules.declared_force what.now }
-{
-    match what {
-        DeclKind::Force(kind, scale, _) => Some(ExprType::Scaled(*kind, *scale)),
-        _ => None,
     }
 }
 

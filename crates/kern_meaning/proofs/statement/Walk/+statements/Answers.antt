@@ -1,8 +1,10 @@
 use Rattle.std.proofs.Common.{arith, ap, sym, ◌∙◌, Ok, ◌+◌, drop, refl}
 use Rattle.std.proofs.lemmas.Result.{err_from_is_err_and}
+use Rattle.kern_meaning.specs.Links.{assigned}
 use Rattle.kern_meaning.specs.Pair.{at_statement}
 use Rattle.kern_meaning.specs.Walks.{pair_state, assigned_by, assigned_in}
-use Rattle.kern_meaning.proofs.Meanings.{then_runs, else_runs, if_counts, if_slots, if_assigned, places_first, places_rest, block_smaller, other_smaller, member_smaller, next_is, next_count, next_slots, block_stops, block_goes_on}
+use Rattle.kern_meaning.proofs.Meanings.{then_runs, then_stops, else_runs, if_counts, if_slots, if_assigned, places_first, places_rest, block_smaller, other_smaller, member_smaller, next_is, next_count, next_slots, block_stops, block_goes_on}
+use Rattle.kern_meaning.proofs.LinkLemmas.{then_links, else_links, set_runs, own_links, later_links}
 use Rattle.kern_meaning.proofs.statement.Walk.+statements.Goals as goal
 
 pub act-block-requires : goal.act-block-requires
@@ -16,7 +18,11 @@ act-block-requires t c =
         omega (arith, c.requires.numbers, counts),
         (
           omega (arith, c.requires.slots, slots),
-          places_first c.args.self.now.names.now c.args.values.now (assigned_by c.args.act.now) (assigned_in c.as_slice.result.now) (assigned_in other) names c.requires.places,
+          (
+            places_first c.args.self.now.names.now c.args.values.now (assigned_by c.args.act.now) (assigned_in c.as_slice.result.now) (assigned_in other) names c.requires.places,
+            c.split-blocks.ensures.first
+                ∙ then_links c.args.self.now.names.now c.args.self.now.decls.now c.args.act.now c.in-If.condition c.in-If.body other c.as_slice.result.now other c.in-If.is c.as_slice.ensures refl c.args.links.now c.split-parts.result.1.now c.requires.links c.split-parts.ensures.others,
+          ),
         ),
       ),
     )
@@ -33,7 +39,11 @@ act-block-requires-else-branch t c =
         omega (arith, c.requires.numbers, counts, c.past-start.ensures.number),
         (
           omega (arith, c.requires.slots, slots, c.past-start.ensures.slot),
-          places_rest c.args.self.now.names.now c.args.values.now (assigned_by c.args.act.now) (assigned_in body) (assigned_in other) names c.requires.places c.args.values.now refl,
+          (
+            places_rest c.args.self.now.names.now c.args.values.now (assigned_by c.args.act.now) (assigned_in body) (assigned_in other) names c.requires.places c.args.values.now refl,
+            c.split-blocks.ensures.others
+                ∙ else_links c.args.self.now.names.now c.args.self.now.decls.now c.args.act.now c.in-If.condition c.in-If.body c.in-If.others body other c.in-If.is c.as_slice-else-branch.ensures c.as_slice-else-branch-2.ensures c.args.links.now c.split-parts.result.1.now c.requires.links c.split-parts.ensures.others,
+          ),
         ),
       ),
     )
@@ -61,7 +71,10 @@ block-act-requires t c =
         omega (arith, c.requires.numbers, c.loop-stmt.invariant.numbers, next_count c.args.self.now.decls.now c.args.self.now.coincident c.args.block.now c.loop-stmt.stmt-index c.stmt-item.result is),
         (
           omega (arith, c.requires.slots, c.loop-stmt.invariant.counts, next_slots c.args.self.now.decls.now c.args.self.now.coincident c.args.block.now c.loop-stmt.stmt-index c.stmt-item.result is),
-          places_first c.args.self.now.names.now c.loop-stmt.values (assigned_in (drop c.loop-stmt.stmt-index c.args.block.now)) (assigned_by c.stmt-item.result.act) (assigned_in rest) (ap assigned_in is) c.loop-stmt.invariant.places,
+          (
+            places_first c.args.self.now.names.now c.loop-stmt.values (assigned_in (drop c.loop-stmt.stmt-index c.args.block.now)) (assigned_by c.stmt-item.result.act) (assigned_in rest) (ap assigned_in is) c.loop-stmt.invariant.places,
+            c.split-parts.ensures.first ∙ own_links c.args.self.now.names.now c.args.self.now.decls.now c.args.block.now c.loop-stmt.stmt-index c.stmt-item.result is c.loop-stmt.rest.now c.loop-stmt.invariant.links,
+          ),
         ),
       ),
     )
@@ -85,4 +98,36 @@ block-loop-stmt-preserved t c =
       numbers = omega (arith, c.loop-stmt.invariant.numbers, count, c.in_ok-next.ensures.1);
       counts = omega (arith, c.loop-stmt.invariant.counts, slots, c.in_ok-next.ensures.2);
       places = places_rest c.args.self.now.names.now c.loop-stmt.values (assigned_in (drop c.loop-stmt.stmt-index c.args.block.now)) (assigned_by c.stmt-item.result.act) (assigned_in rest) (ap assigned_in is) c.loop-stmt.invariant.places c.act.new.values (omega (arith, c.act.auto.values));
+      links = c.split-parts.ensures.others ∙ later_links c.args.self.now.names.now c.args.self.now.decls.now c.args.block.now c.loop-stmt.stmt-index c.stmt-item.result is c.loop-stmt.rest.now c.loop-stmt.invariant.links;
     }
+
+pub act-returns-in_ok-held-in-Set : goal.act-returns-in_ok-held-in-Set
+act-returns-in_ok-held-in-Set t c =
+    set_runs c.args.self.now.names.now c.args.self.now.decls.now c.args.act.now c.args.self.now.coincident c.in-Set.field-0 c.in-Set.value c.in-Set.is c.args.links.now c.requires.links c.args.number c.args.slot
+    c.args.values.now c.assign.new.values c.args.slots.now c.requires.places c.in_ok-held-in-Set.held (ap (at_statement c.args.self.now.coincident c.args.number) (sym c.number_value_of-held.ensures) ∙ sym c.in_ok-held-in-Set.ensures)
+    (c.assign.ensures ∙ ap (λ k. assigned c.args.values.now k c.in_ok-held-in-Set.held) c.number_at.ensures)
+
+pub act-past-requires-clause-numbers : goal.act-past-requires-clause-numbers
+act-past-requires-clause-numbers t c =
+    omega (arith, c.requires.numbers, c.in_ok-end-in-If.ensures.1, if_counts c.args.self.now.decls.now c.args.self.now.coincident c.args.act.now c.in-If.condition c.in-If.body c.in-If.others c.as_slice.result.now c.as_slice-then-branch.result.now c.in-If.is c.as_slice.ensures c.as_slice-then-branch.ensures)
+
+pub act-past-requires-clause-slots : goal.act-past-requires-clause-slots
+act-past-requires-clause-slots t c =
+    omega (arith, c.requires.slots, c.in_ok-end-in-If.ensures.2, if_slots c.args.self.now.decls.now c.args.self.now.coincident c.args.act.now c.in-If.condition c.in-If.body c.in-If.others c.as_slice.result.now c.as_slice-then-branch.result.now c.in-If.is c.as_slice.ensures c.as_slice-then-branch.ensures)
+
+pub act-past-start-requires-clause-numbers : goal.act-past-start-requires-clause-numbers
+act-past-start-requires-clause-numbers t c =
+    omega (arith, c.requires.numbers, if_counts c.args.self.now.decls.now c.args.self.now.coincident c.args.act.now c.in-If.condition c.in-If.body c.in-If.others c.as_slice-else-branch.result.now c.in-If.others c.in-If.is c.as_slice-else-branch.ensures refl)
+
+pub act-past-start-requires-clause-slots : goal.act-past-start-requires-clause-slots
+act-past-start-requires-clause-slots t c =
+    omega (arith, c.requires.slots, if_slots c.args.self.now.decls.now c.args.self.now.coincident c.args.act.now c.in-If.condition c.in-If.body c.in-If.others c.as_slice-else-branch.result.now c.in-If.others c.in-If.is c.as_slice-else-branch.ensures refl)
+
+pub act-returns-in_err-end-in-If : goal.act-returns-in_err-end-in-If
+act-returns-in_err-end-in-If t c =
+    let fault = err_from_is_err_and c.from_residual-in_err-end-in-If.result c.from_residual-in_err-end-in-If.ensures.1 in
+    rw (fault.1, fault.2)
+    (then_stops c.args.self.now.decls.now c.args.self.now.coincident c.args.act.now c.in-If.condition c.in-If.body c.in-If.others c.as_slice.result.now c.in-If.others c.in-If.is c.as_slice.ensures refl c.args.number c.args.slot
+    (pair_state c.args.self.now.names.now c.args.values.now c.args.slots.now) (pair_state c.args.self.now.names.now c.block.new.values c.block.new.slots) _
+    (ap (at_statement c.args.self.now.coincident c.args.number) (sym c.truth_of-holds.ensures) ∙ sym c.in_ok-at_statement-in-If.ensures ∙ ap Ok c.if-branch.true)
+    c.in_err-end-in-If.ensures)

@@ -1,4 +1,5 @@
 use Rattle.std.proofs.Common.{◌≡◌, ◌+◌, drop}
+use Rattle.kern_meaning.specs.Links.{links_of_block}
 use Rattle.kern_meaning.specs.Pair.{block_meaning}
 use Rattle.kern_meaning.specs.Walks.{HavePlaces, assigned_in, pair_state}
 use Rattle.kern_meaning.proofs.statement.Walk.+statements.Given as goal
@@ -10,5 +11,6 @@ invariant-block-loop-stmt l = record {
       ≡ (block_meaning l.self.decls.now l.self.coincident (drop l.stmt-index l.block)).run l.number l.slot (pair_state l.self.names.now l.values l.slots);
   numbers : l.number + (block_meaning l.self.decls.now l.self.coincident (drop l.stmt-index l.block)).count ≡ l.fn.first + (block_meaning l.self.decls.now l.self.coincident l.block).count;
   counts : l.slot + (block_meaning l.self.decls.now l.self.coincident (drop l.stmt-index l.block)).slots ≡ l.fn.before + (block_meaning l.self.decls.now l.self.coincident l.block).slots;
+  links : l.rest ≡ links_of_block l.self.names.now l.self.decls.now (drop l.stmt-index l.block);
   places : HavePlaces l.self.names.now l.values (assigned_in (drop l.stmt-index l.block));
 }

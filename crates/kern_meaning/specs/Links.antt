@@ -1,0 +1,98 @@
+-- What the names and the forms of a kernel are resolved to, in text order: what the executor reads beside the tree.
+use Rattle.std.specs.Prelude.{ℕ, List, [], ◌∷◌, ◌++◌, length, take, drop, flat_map, map, slice_get, slice_set, Option, Some, None}
+use Rattle.kern_tree.specs.declared.expr.Expr.{Expr}
+use Rattle.kern_tree.specs.declared.expr.Form.TheFolds.{fold-Form}
+use Rattle.kern_tree.specs.declared.expr.Form.TheOpen.{Form-F, Expr-F}
+use Rattle.kern_tree.specs.declared.expr.Form.TheOpen as forms
+use Rattle.kern_tree.specs.declared.kernel.Decl.{Decl}
+use Rattle.kern_tree.specs.declared.kernel.Kernel.{Kernel}
+use Rattle.kern_tree.specs.declared.stmt.Act.{Act}
+use Rattle.kern_tree.specs.declared.stmt.Act.TheFolds.{fold-Act}
+use Rattle.kern_tree.specs.declared.stmt.Act.TheOpen.{Act-F, Stmt-F}
+use Rattle.kern_tree.specs.declared.stmt.Act.TheOpen as acts
+use Rattle.kern_tree.specs.declared.stmt.Stmt.{Stmt}
+use Rattle.kern_types.specs.declared.expr_type.ExprType.{ExprType}
+use Rattle.kern_types.specs.Names.{declaration}
+use Rattle.kern_meaning.specs.declared.link.Link.{Link}
+use Rattle.kern_meaning.specs.declared.link.Link.TheVariants as links
+use Rattle.kern_meaning.specs.declared.value.Value.{Value}
+use Rattle.kern_meaning.specs.Pair.{force_type}
+use Rattle.kern_meaning.specs.Walks.{number_of, value_at, names_of}
+
+-- ---- parts
+
+-- links with their count before them
+abbrev pub counted : List Link → List Link
+counted part = links.Count (length part) ∷ part
+
+-- the links that are counted first, and those after them
+abbrev pub first_part : List Link → List Link
+first_part (links.Count n ∷ others) = take n others
+first_part _ = []
+
+abbrev pub other_part : List Link → List Link
+other_part (links.Count n ∷ others) = drop n others
+other_part _ = []
+
+-- the number of the name that stands first
+abbrev pub number_at : List Link → Option ℕ
+number_at (links.Name n ∷ others) = Some n
+number_at _ = None
+
+-- the type of the FORCE variable that stands first
+abbrev pub force_at : List Link → Option ExprType
+force_at (links.Force type ∷ others) = type
+force_at _ = None
+
+-- the value of the name of this number
+abbrev pub value_numbered : List (Option Value) → Option ℕ → Option Value
+value_numbered values None = None
+value_numbered values (Some n) = value_at (slice_get values n)
+
+-- the values after the name of this number is assigned
+abbrev pub assigned : List (Option Value) → Option ℕ → Value → List (Option Value)
+assigned values None value = values
+assigned values (Some n) value = slice_set values n (Some value)
+
+-- ---- expressions
+
+abbrev pub expr_links : Expr-F (List Link) (List Link) → List Link
+expr_links expr = expr.form
+
+module _ (names : List (List ℕ)) where
+  -- of several operands each but the last is counted
+  abbrev pub form_links : Form-F (List Link) (List Link) → List Link
+  form_links (forms.Number mantissa scale) = []
+  form_links (forms.Name name) = links.Name (number_of names name) ∷ []
+  form_links (forms.Part whole axis) = whole
+  form_links (forms.One op operand) = operand
+  form_links (forms.Two op left right) = counted left ++ right
+  form_links (forms.Three op first second third) = counted first ++ (counted second ++ third)
+  form_links (forms.To k operand) = operand
+
+  abbrev pub links_of : Expr → List Link
+  links_of expr = fold-Form (List Link) (List Link) form_links expr_links expr.form
+
+-- ---- statements
+
+abbrev pub stmt_links : Stmt-F (List Link) (List Link) → List Link
+stmt_links stmt = stmt.act
+
+abbrev pub all_counted : List (List Link) → List Link
+all_counted parts = flat_map (λ part. counted part) parts
+
+module _ (names : List (List ℕ)) (decls : List Decl) where
+  abbrev pub act_links : Act-F (List Link) (List Link) → List Link
+  act_links (acts.Set name value) = links.Name (number_of names name) ∷ links_of names value
+  act_links (acts.Give name value) = links.Force (force_type (declaration decls name)) ∷ links_of names value
+  act_links (acts.If condition body others) =
+      counted (links_of names condition) ++ (counted (all_counted body) ++ all_counted others)
+
+  abbrev pub links_of_act : Act → List Link
+  links_of_act = fold-Act (List Link) (List Link) act_links stmt_links
+
+  abbrev pub links_of_block : List Stmt → List Link
+  links_of_block stmts = all_counted (map (λ stmt. links_of_act stmt.act) stmts)
+
+abbrev pub links_of_kernel : Kernel → List Link
+links_of_kernel kernel = links_of_block (names_of kernel) kernel.decls kernel.body
