@@ -1,23 +1,26 @@
 -- The links of statements, by their forms, and an assignment by the number of its name.
-use Rattle.std.proofs.Common.{◌≡◌, ℕ, ◌+◌, Bool, List, [], ◌∷◌, ◌++◌, drop, Option, Some, Result, Ok, Err, IfOk, sym, ap, ◌∙◌, subst, arith}
+use Rattle.std.proofs.Common.{◌≡◌, ℕ, ◌+◌, Bool, List, [], ◌∷◌, ◌++◌, length, drop, Option, Some, Result, Ok, Err, IfOk, sym, ap, ◌∙◌, subst, arith}
 use Rattle.std.specs.List.{AllByRecursion}
 use Rattle.std.proofs.Math.Seq.{take-append_seam, drop-append_seam}
 use Rattle.kern_tree.specs.declared.expr.Expr.{Expr}
+use Rattle.kern_tree.specs.declared.expr.Form.TheVariants as forms
 use Rattle.kern_tree.specs.declared.kernel.Decl.{Decl}
 use Rattle.kern_tree.specs.declared.stmt.Act.{Act}
 use Rattle.kern_tree.specs.declared.stmt.Act.TheVariants as acts
 use Rattle.kern_tree.specs.declared.stmt.Stmt.{Stmt}
+use Rattle.pf_model.specs.Particle.{Particle}
+use Rattle.pf_model.specs.Totals.{Source}
 use Rattle.kern_meaning.specs.declared.link.Link.{Link}
 use Rattle.kern_meaning.specs.declared.value.Value.{Value}
-use Rattle.kern_meaning.specs.Expressions.{number_value_of}
-use Rattle.kern_meaning.specs.Links.{counted, first_part, other_part, number_at, assigned, links_of, act_links, stmt_links, links_of_act, links_of_block}
-use Rattle.kern_meaning.specs.Names.{with_value}
+use Rattle.kern_meaning.specs.Expressions.{value_of, number_value_of, form_value, form_meaning, value_of_form}
+use Rattle.kern_meaning.specs.Links.{counted, first_part, other_part, number_at, assigned, value_by, form_links, expr_links, links_of, act_links, stmt_links, links_of_act, links_of_block}
+use Rattle.kern_meaning.specs.Names.{Known, known_at_start, name_value, with_value}
 use Rattle.kern_meaning.specs.Pair.{at_statement, act_meaning, Statements}
 use Rattle.kern_meaning.specs.Stops.{◌>>=◌}
 use Rattle.kern_meaning.specs.Walks.{act_assigned, stmt_assigned, assigned_by, HavePlaces, HasPlace, known_by, number_of, pair_state}
-use Rattle.kern_meaning.proofs.Layers.{set_layer, if_layer}
+use Rattle.kern_meaning.proofs.Layers.{of_form, name_layer, set_layer, if_layer}
 use Rattle.kern_meaning.proofs.Meanings.{set_is}
-use Rattle.kern_meaning.proofs.NamePlaces.{assigned_known}
+use Rattle.kern_meaning.proofs.NamePlaces.{assigned_known, link_known}
 
 pub first_counted : (all xs ys : List Link) → all ≡ counted xs ++ ys → first_part all ≡ xs
 first_counted all xs ys e = ap first_part e ∙ take-append_seam xs ys
@@ -30,15 +33,32 @@ pub made_of : {A E : Type 0} (items : A → List Link) (r : Result A E) (first o
 made_of items (Ok made) first others all e f = e ∙ f
 made_of items (Err fault) first others all e f = tt
 
+-- the value of a name is read by its link
+pub read_value : (names : List (List ℕ)) (decls : List Decl) (i : Particle) (j : Source) (values : List (Option Value)) → length values ≡ length names → (expr : Expr) (name : List ℕ) → expr.form ≡ forms.Name name
+    → (links : List Link) → links ≡ links_of names decls expr → name_value (value_by i j values links) ≡ value_of (known_by (known_at_start decls i j) names values) expr
+read_value names decls i j values same expr name is links are =
+    let known : Known = known_by (known_at_start decls i j) names values in
+    ap (λ ls. name_value (value_by i j values ls)) (are ∙ ap (of_form (form_links names decls) expr_links) is ∙ name_layer (form_links names decls) expr_links name)
+    ∙ ap name_value (link_known i j decls names values same name)
+    ∙ sym (ap (form_value known) is ∙ name_layer (form_meaning known) value_of_form name)
+
 module _ (names : List (List ℕ)) (decls : List Decl) (act : Act) where
   -- ---- the blocks of an `if`
 
   module _ (condition : Expr) (body others read read_other : List Stmt) (is : act ≡ acts.If condition body others) (same : read ≡ body) (same_other : read_other ≡ others) where
-    pub if_links : links_of_act names decls act ≡ counted (links_of names condition) ++ (counted (links_of_block names decls read) ++ links_of_block names decls read_other)
+    if_links : links_of_act names decls act ≡ counted (links_of names decls condition) ++ (counted (links_of_block names decls read) ++ links_of_block names decls read_other)
     if_links =
         ap (links_of_act names decls) is ∙ if_layer (act_links names decls) stmt_links condition body others
-        ∙ ap (λ b. counted (links_of names condition) ++ (counted (links_of_block names decls b) ++ links_of_block names decls others)) (sym same)
-        ∙ ap (λ b. counted (links_of names condition) ++ (counted (links_of_block names decls read) ++ links_of_block names decls b)) (sym same_other)
+        ∙ ap (λ b. counted (links_of names decls condition) ++ (counted (links_of_block names decls b) ++ links_of_block names decls others)) (sym same)
+        ∙ ap (λ b. counted (links_of names decls condition) ++ (counted (links_of_block names decls read) ++ links_of_block names decls b)) (sym same_other)
+
+    -- made of those of its parts
+    pub if_made : (first one two rest : List Link) → first ≡ links_of names decls condition → one ≡ links_of_block names decls read → two ≡ links_of_block names decls read_other → rest ≡ counted one ++ two
+        → counted first ++ rest ≡ links_of_act names decls act
+    if_made first one two rest e f g h =
+        ap (λ x. counted x ++ rest) e
+        ∙ ap (λ x. counted (links_of names decls condition) ++ x) (h ∙ ap (λ x. counted x ++ two) f ∙ ap (λ x. counted (links_of_block names decls read) ++ x) g)
+        ∙ sym if_links
 
     module _ (links parts : List Link) (are : links ≡ links_of_act names decls act) (rest : parts ≡ other_part links) where
       blocks : parts ≡ counted (links_of_block names decls read) ++ links_of_block names decls read_other
@@ -52,7 +72,7 @@ module _ (names : List (List ℕ)) (decls : List Decl) (act : Act) where
 
   -- ---- an assignment
 
-  module _ (coincident : Bool) (name : List ℕ) (value : Expr) (is : act ≡ acts.Set name value) (links : List Link) (are : links ≡ links_of_act names decls act) (n slot : ℕ)
+  module _ (coincident : Bool) (start : Known) (name : List ℕ) (value : Expr) (is : act ≡ acts.Set name value) (links : List Link) (are : links ≡ links_of_act names decls act) (n slot : ℕ)
       (values new slots : List (Option Value)) (places : HavePlaces names values (assigned_by act)) (held : Value) where
     numbered : number_at links ≡ Some (number_of names name)
     numbered = ap number_at (are ∙ ap (links_of_act names decls) is ∙ set_layer (act_links names decls) stmt_links name value)
@@ -63,14 +83,14 @@ module _ (names : List (List ℕ)) (decls : List Decl) (act : Act) where
     has_place : HasPlace names name
     has_place = (subst (λ (ns : List (List ℕ)). AllByRecursion (HasPlace names) ns) one_name places.each).0
 
-    pub set_runs : at_statement coincident n (number_value_of (known_by names values) value) ≡ Ok held → new ≡ assigned values (number_at links) held
-        → ((act_meaning decls coincident act).run n slot (pair_state names values slots) ≡ Ok (pair_state names new slots)) × (n + 1 ≡ n + (act_meaning decls coincident act).count) × (slot ≡ slot + (act_meaning decls coincident act).slots)
+    pub set_runs : at_statement coincident n (number_value_of (known_by start names values) value) ≡ Ok held → new ≡ assigned values (number_at links) held
+        → ((act_meaning decls coincident act).run n slot (pair_state start names values slots) ≡ Ok (pair_state start names new slots)) × (n + 1 ≡ n + (act_meaning decls coincident act).count) × (slot ≡ slot + (act_meaning decls coincident act).slots)
     set_runs holds changed =
         let meaning = set_is decls coincident act name value is in
-        let known : with_value (known_by names values) name held ≡ known_by names new =
-        sym (assigned_known names values name held places.same has_place) ∙ ap (known_by names) (sym (changed ∙ ap (λ k. assigned values k held) numbered)) in (
-          ap (λ (m : Statements). m.run n slot (pair_state names values slots)) meaning
-              ∙ ap (λ r. r >>= (λ h. Ok (record { known = with_value (known_by names values) name h; given = slots }))) holds
+        let known : with_value (known_by start names values) name held ≡ known_by start names new =
+        sym (assigned_known start names values name held places.same has_place) ∙ ap (known_by start names) (sym (changed ∙ ap (λ k. assigned values k held) numbered)) in (
+          ap (λ (m : Statements). m.run n slot (pair_state start names values slots)) meaning
+              ∙ ap (λ r. r >>= (λ h. Ok (record { known = with_value (known_by start names values) name h; given = slots }))) holds
               ∙ ap (λ k. Ok (record { known = k; given = slots })) known,
           omega (arith, ap (λ (m : Statements). m.count) meaning),
           omega (arith, ap (λ (m : Statements). m.slots) meaning),

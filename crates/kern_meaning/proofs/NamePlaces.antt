@@ -1,6 +1,5 @@
 -- The numbers of names, and the values that stand by number.
 use Rattle.std.proofs.Common.{◌≡◌, ◌≢◌, ℕ, zero, suc, ◌+◌, ◌<◌, ◌≤◌, Bool, true, false, not, cond, List, [], ◌∷◌, ◌++◌, ◌&&◌, ℤ, length, map, get_or, set, Option, Some, None, bytes_eq, refl, sym, ap, ◌∙◌, subst, arith, append_assoc, length-append, nat_lt}
-use Rattle.std.proofs.lemmas.List.{length-map}
 use Rattle.std.specs.Prelude.{slice_get, unwrap_or}
 use Rattle.std.specs.List.{position_or_len, AllByRecursion}
 use Rattle.std.proofs.lemmas.Bool.Decides.{nat_tests}
@@ -19,10 +18,12 @@ use Rattle.kern_types.specs.Names.{declaration}
 use Rattle.kern_meaning.specs.declared.value.Value.{Value}
 use Rattle.kern_meaning.specs.declared.variable.Variable.{Variable}
 use Rattle.kern_meaning.specs.declared.variable.Variable.TheVariants as variables
-use Rattle.kern_meaning.specs.Names.{known_at_start, with_value, value_if_declared, declared_value, variable_value, fits, field_named, particle_has, source_has}
+use Rattle.kern_meaning.specs.declared.link.Link.TheVariants as links
+use Rattle.kern_meaning.specs.Links.{link_of, value_by}
+use Rattle.kern_meaning.specs.Names.{Known, known_at_start, with_value, value_if_declared, declared_value, variable_value, fits, field_named, particle_has, source_has}
 use Rattle.kern_meaning.specs.Values.{value_of_kind}
-use Rattle.kern_meaning.specs.Variables.{resolved, resolved_field, value_of_variable, started_at}
-use Rattle.kern_meaning.specs.Walks.{number_of, known_by, value_at, HasPlace}
+use Rattle.kern_meaning.specs.Variables.{resolved, resolved_field, variable_of, value_of_variable, value_if_any, started_at}
+use Rattle.kern_meaning.specs.Walks.{number_of, known_by, value_at, value_or, HasPlace}
 
 -- ---- numbers
 
@@ -77,7 +78,7 @@ got_other (y ∷ xs) (suc k) (suc j) x h = got_other xs k j x (λ e. h (ap (λ n
 named_same : (a b : List ℕ) → bytes_eq a b ≡ true → a ≡ b
 named_same a b e = (bytes_eq-Decides a b).0 e
 
-module _ (names : List (List ℕ)) (values : List (Option Value)) (name : List ℕ) (v : Value) (same : length values ≡ length names) (here : number_of names name < length names) where
+module _ (start : Known) (names : List (List ℕ)) (values : List (Option Value)) (name : List ℕ) (v : Value) (same : length values ≡ length names) (here : number_of names name < length names) where
   apart : (other : List ℕ) → bytes_eq name other ≡ false → number_of names other ≢ number_of names name
   apart other e f =
       let first = number_of-is names name in
@@ -89,13 +90,13 @@ module _ (names : List (List ℕ)) (values : List (Option Value)) (name : List �
       let yes : bytes_eq name other ≡ true = (bytes_eq-Decides name other).1 is in
       let no : ⊥ = cc in no
 
-  assigned_at : (other : List ℕ) (b : Bool) → bytes_eq name other ≡ b → known_by names (set values (number_of names name) (Some v)) other ≡ cond b (Some v) (known_by names values other)
+  assigned_at : (other : List ℕ) (b : Bool) → bytes_eq name other ≡ b → known_by start names (set values (number_of names name) (Some v)) other ≡ cond b (Some v) (known_by start names values other)
   assigned_at other true e =
-      ap (λ n. value_at (slice_get (set values (number_of names name) (Some v)) (number_of names n))) (sym (named_same name other e))
-      ∙ ap value_at (got_same values (number_of names name) (Some v) (omega (arith, here, same)))
-  assigned_at other false e = ap value_at (got_other values (number_of names name) (number_of names other) (Some v) (apart other e))
+      ap (λ n. value_or (start other) (slice_get (set values (number_of names name) (Some v)) (number_of names n))) (sym (named_same name other e))
+      ∙ ap (value_or (start other)) (got_same values (number_of names name) (Some v) (omega (arith, here, same)))
+  assigned_at other false e = ap (value_or (start other)) (got_other values (number_of names name) (number_of names other) (Some v) (apart other e))
 
-  pub assigned_known : known_by names (set values (number_of names name) (Some v)) ≡ with_value (known_by names values) name v
+  pub assigned_known : known_by start names (set values (number_of names name) (Some v)) ≡ with_value (known_by start names values) name v
   assigned_known = fun_ext (λ other. assigned_at other (bytes_eq name other) refl)
 
 -- ---- the start
@@ -115,51 +116,60 @@ module _ (i : Particle) (j : Source) where
   resolved_value (declared_as.Param scale mantissa) = refl
   resolved_value (declared_as.Force kind scale combine) = refl
 
-  started : (decls : List Decl) (assigned : List (List ℕ)) (name : List ℕ)
-      → started_at i j (map (λ (d : Decl). resolved d.what) decls) (position_or_len (λ other. bytes_eq other name) (map (λ (d : Decl). d.name) decls ++ assigned)) ≡ value_if_declared i j (declaration decls name)
-  started [] assigned name = refl
-  started (d ∷ decls) assigned name = either (bytes_eq d.name name) (started decls assigned name) where
-    either : (b : Bool) → started_at i j (map (λ (d : Decl). resolved d.what) decls) (position_or_len (λ other. bytes_eq other name) (map (λ (d : Decl). d.name) decls ++ assigned)) ≡ value_if_declared i j (declaration decls name)
-        → started_at i j (resolved d.what ∷ map (λ (d : Decl). resolved d.what) decls) (cond (not b) (1 + position_or_len (λ other. bytes_eq other name) (map (λ (d : Decl). d.name) decls ++ assigned)) 0)
-        ≡ value_if_declared i j (cond b (Some d) (declaration decls name))
-    either true h = resolved_value d.what
-    either false h =
-        let n : ℕ = position_or_len (λ other. bytes_eq other name) (map (λ (d : Decl). d.name) decls ++ assigned) in
-        let next : 1 + n ≡ suc n = omega arith in
-        ap (started_at i j (resolved d.what ∷ map (λ (d : Decl). resolved d.what) decls)) next ∙ h
+  declared_is : (decl : Option Decl) → value_of_variable i j (variable_of decl) ≡ value_if_declared i j decl
+  declared_is None = refl
+  declared_is (Some decl) = resolved_value decl.what
 
-  valued : (xs : List (Option Value)) (k : ℕ) → value_at (slice_get xs k) ≡ get_or xs k None
-  valued [] k = refl
-  valued (x ∷ xs) zero = refl
-  valued (x ∷ xs) (suc k) = valued xs k
+  got_in : {X : Type 0} (xs : List X) (k : ℕ) (d : X) → k < length xs → slice_get xs k ≡ Some (get_or xs k d)
+  got_in [] k d h = absurd (let no : ⊥ = omega (arith, h) in no)
+  got_in (x ∷ xs) zero d h = refl
+  got_in (x ∷ xs) (suc k) d h = got_in xs k d (omega (arith, h))
 
-  past_end : (xs : List (Option Value)) (k : ℕ) → length xs ≤ k → get_or xs k None ≡ None
-  past_end [] k h = refl
-  past_end (x ∷ xs) zero h = absurd (let no : ⊥ = omega (arith, h) in no)
-  past_end (x ∷ xs) (suc k) h = past_end xs k (omega (arith, h))
+  got_out : {X : Type 0} (xs : List X) (k : ℕ) → length xs ≤ k → slice_get xs k ≡ None
+  got_out [] k h = refl
+  got_out (x ∷ xs) zero h = absurd (let no : ⊥ = omega (arith, h) in no)
+  got_out (x ∷ xs) (suc k) h = got_out xs k (omega (arith, h))
 
-  none_past : (xs : List Variable) (k : ℕ) → length xs ≤ k → started_at i j xs k ≡ None
-  none_past [] k h = refl
-  none_past (x ∷ xs) zero h = absurd (let no : ⊥ = omega (arith, h) in no)
-  none_past (x ∷ xs) (suc k) h = none_past xs k (omega (arith, h))
+  got_map : {X Y : Type 0} (f : X → Y) (xs : List X) (k : ℕ) (d : X) → k < length xs → slice_get (map f xs) k ≡ Some (f (get_or xs k d))
+  got_map f [] k d h = absurd (let no : ⊥ = omega (arith, h) in no)
+  got_map f (x ∷ xs) zero d h = refl
+  got_map f (x ∷ xs) (suc k) d h = got_map f xs k d (omega (arith, h))
 
-  -- values that are those of the variables, place by place, are those of a pair's start
-  module _ (decls : List Decl) (assigned : List (List ℕ)) (names : List (List ℕ)) (resolved_all : List Variable) (values : List (Option Value)) (names_are : names ≡ map (λ (d : Decl). d.name) decls ++ assigned)
-      (are : resolved_all ≡ map (λ (d : Decl). resolved d.what) decls) (same : length values ≡ length names) (each : (k : ℕ) → k < length values → get_or values k None ≡ started_at i j resolved_all k) where
-    at_number : (k : ℕ) (b : Bool) → nat_lt k (length values) ≡ b → get_or values k None ≡ started_at i j resolved_all k
-    at_number k true e = each k (let h : k < length values = grind (arith, nat_tests) in h)
-    at_number k false e =
-        let h : length values ≤ k = grind (arith, nat_tests) in
-        past_end values k h
-        ∙ sym (none_past resolved_all k (omega (arith, h, same, ap length names_are, ap length are, length-append (map (λ (d : Decl). d.name) decls) assigned, length-map decls (λ (d : Decl). d.name), length-map decls (λ (d : Decl). resolved d.what))))
+  module _ (decls : List Decl) (names : List (List ℕ)) (values : List (Option Value)) (same : length values ≡ length names) where
+    -- values that are those of what the names are declared as, place by place, are those of a pair's start
+    module _ (variables : List Variable) (are : variables ≡ map (λ (name : List ℕ). variable_of (declaration decls name)) names) (each : (k : ℕ) → k < length values → get_or values k None ≡ started_at i j variables k) where
+      at_number : (name : List ℕ) (b : Bool) → nat_lt (number_of names name) (length values) ≡ b → known_by (known_at_start decls i j) names values name ≡ known_at_start decls i j name
+      at_number name true e =
+          let n : ℕ = number_of names name in
+          let h : n < length values = grind (arith, nat_tests) in
+          let h' : n < length names = omega (arith, h, same) in
+          let first = number_of-is names name in
+          let is : get_or names n [] ≡ name =
+          ap (λ k. get_or names k []) first ∙ named_same _ name (passes (λ x. bytes_eq x name) names [] (omega (arith, h', first))) in
+          ap (value_or (known_at_start decls i j name)) (got_in values n None h)
+          ∙ each n h
+          ∙ ap (λ vs. value_if_any i j (slice_get vs n)) are
+          ∙ ap (value_if_any i j) (got_map (λ (x : List ℕ). variable_of (declaration decls x)) names n [] h')
+          ∙ declared_is (declaration decls (get_or names n []))
+          ∙ ap (λ x. value_if_declared i j (declaration decls x)) is
+      at_number name false e =
+          let h : length values ≤ number_of names name = grind (arith, nat_tests) in
+          ap (value_or (known_at_start decls i j name)) (got_out values (number_of names name) h)
 
-    start_at : (name : List ℕ) → known_by names values name ≡ known_at_start decls i j name
-    start_at name =
-        valued values (number_of names name) ∙ at_number (number_of names name) (nat_lt (number_of names name) (length values)) refl
-        ∙ ap (started_at i j resolved_all) (number_of-is names name)
-        ∙ ap (λ all. started_at i j resolved_all (position_or_len (λ other. bytes_eq other name) all)) names_are
-        ∙ ap (λ all. started_at i j all (position_or_len (λ other. bytes_eq other name) (map (λ (d : Decl). d.name) decls ++ assigned))) are
-        ∙ started decls assigned name
+      pub start_known : known_by (known_at_start decls i j) names values ≡ known_at_start decls i j
+      start_known = fun_ext (λ name. at_number name (nat_lt (number_of names name) (length values)) refl)
 
-    pub start_known : known_by names values ≡ known_at_start decls i j
-    start_known = fun_ext start_at
+    -- a name's link gives its value
+    module _ (name : List ℕ) where
+      linked : (b : Bool) → nat_lt (number_of names name) (length names) ≡ b
+          → value_by i j values (cond b (links.Assigned (number_of names name)) (links.Declared (variable_of (declaration decls name))) ∷ []) ≡ known_by (known_at_start decls i j) names values name
+      linked true e =
+          let h : number_of names name < length names = grind (arith, nat_tests) in
+          let got = got_in values (number_of names name) None (omega (arith, h, same)) in
+          ap value_at got ∙ sym (ap (value_or (known_at_start decls i j name)) got)
+      linked false e =
+          let h : length names ≤ number_of names name = grind (arith, nat_tests) in
+          declared_is (declaration decls name) ∙ sym (ap (value_or (known_at_start decls i j name)) (got_out values (number_of names name) (omega (arith, h, same))))
+
+      pub link_known : value_by i j values (link_of names decls name ∷ []) ≡ known_by (known_at_start decls i j) names values name
+      link_known = linked (nat_lt (number_of names name) (length names)) refl

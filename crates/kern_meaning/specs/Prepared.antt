@@ -2,17 +2,18 @@
 use Rattle.std.specs.Prelude.{◌≡◌, ℕ, ℤ, List, length, map, Option, slice_get}
 use Rattle.std.specs.Option.{option_map}
 use Rattle.kern_tree.specs.declared.kernel.Kernel.{Kernel}
+use Rattle.kern_types.specs.Names.{declaration}
 use Rattle.kern_types.specs.Statements.{slots_in}
 use Rattle.kern_meaning.specs.declared.link.Link.{Link}
 use Rattle.kern_meaning.specs.declared.value.Value.{Value}
 use Rattle.kern_meaning.specs.declared.variable.Variable.{Variable}
 use Rattle.kern_meaning.specs.Links.{links_of_kernel}
 use Rattle.kern_meaning.specs.Values.{components}
-use Rattle.kern_meaning.specs.Variables.{resolved}
+use Rattle.kern_meaning.specs.Variables.{variable_of}
 use Rattle.kern_meaning.specs.Walks.{names_of, value_at}
 
--- a scratch as clauses see it: the names, what they are resolved to, what is declared and the values, by number, and what each `+=`
--- gave in the last pair
+-- a scratch as clauses see it: the names that are assigned, what the text is resolved to, what the names are
+-- declared as and their values, by number, and what each `+=` gave in the last pair
 pub record Prepared : Type 0 where
   pub names : List (List ℕ)
   pub links : List Link
@@ -24,7 +25,7 @@ pub record Prepared : Type 0 where
 pub record IsMadeFor (kernel : Kernel) (s : Prepared) : Type 0 where
   pub names : s.names ≡ names_of kernel
   pub links : s.links ≡ links_of_kernel kernel
-  pub variables : s.variables ≡ map (λ decl. resolved decl.what) kernel.decls
+  pub variables : s.variables ≡ map (λ name. variable_of (declaration kernel.decls name)) (names_of kernel)
   pub values : length s.values ≡ length s.names
   pub given : length s.given ≡ slots_in kernel.body
 

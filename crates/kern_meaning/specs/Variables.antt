@@ -1,5 +1,6 @@
 -- Declarations, resolved: what the executor reads of a particle and an item.
 use Rattle.std.specs.Prelude.{ℕ, Bool, ◌&&◌, List, slice_get, Option, Some, None, if◌then◌else◌}
+use Rattle.kern_tree.specs.declared.kernel.Decl.{Decl}
 use Rattle.kern_tree.specs.declared.kernel.DeclKind.{DeclKind}
 use Rattle.kern_tree.specs.declared.kernel.DeclKind.TheVariants as declared_as
 use Rattle.kern_tree.specs.declared.kernel.Kind.{Kind}
@@ -29,6 +30,11 @@ resolved (declared_as.Epj kind scale field) =
 resolved (declared_as.Param scale mantissa) = variables.Constant mantissa scale
 resolved (declared_as.Force kind scale combine) = variables.Nothing
 
+-- what a name is resolved to, by its declaration
+abbrev pub variable_of : Option Decl → Variable
+variable_of None = variables.Nothing
+variable_of (Some decl) = resolved decl.what
+
 -- the value of what a declaration is resolved to
 abbrev pub value_of_variable : Particle → Source → Variable → Option Value
 value_of_variable i j (variables.Particle of kind scale) =
@@ -42,6 +48,6 @@ abbrev pub value_if_any : Particle → Source → Option Variable → Option Val
 value_if_any i j None = None
 value_if_any i j (Some variable) = value_of_variable i j variable
 
--- the value with which the name of this number begins, where these are declared
+-- the value with which the name of this number begins, where these are what the names are declared as
 abbrev pub started_at : Particle → Source → List Variable → ℕ → Option Value
 started_at i j declared k = value_if_any i j (slice_get declared k)

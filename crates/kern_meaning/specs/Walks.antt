@@ -1,5 +1,5 @@
 -- The values of names, by number, and how the executor's walk over statements answers for their meaning.
-use Rattle.std.specs.Prelude.{◌≡◌, ℕ, ◌+◌, ◌<◌, List, [], ◌∷◌, ◌++◌, length, Option, Some, None, Result, Ok, Err, MatchResult, map, flat_map, slice_get, position, unwrap_or}
+use Rattle.std.specs.Prelude.{◌≡◌, ℕ, ◌+◌, ◌<◌, List, [], ◌∷◌, ◌++◌, length, Option, Some, None, Result, Ok, Err, MatchResult, flat_map, slice_get, position, unwrap_or}
 use Rattle.std.specs.List.{AllByRecursion}
 use Rattle.std.specs.Str.{bytes_eq}
 use Rattle.kern_tree.specs.declared.kernel.Kernel.{Kernel}
@@ -30,9 +30,9 @@ assigned_by = fold-Act (List (List ℕ)) (List (List ℕ)) act_assigned stmt_ass
 abbrev pub assigned_in : List Stmt → List (List ℕ)
 assigned_in stmts = flat_map (λ stmt. assigned_by stmt.act) stmts
 
--- the names of a kernel: those declared, and those assigned
+-- the names of a kernel that have numbers: those assigned
 abbrev pub names_of : Kernel → List (List ℕ)
-names_of kernel = map (λ decl. decl.name) kernel.decls ++ assigned_in kernel.body
+names_of kernel = assigned_in kernel.body
 
 -- a name's number is its first place among the names, or their count
 abbrev pub number_of : List (List ℕ) → List ℕ → ℕ
@@ -42,15 +42,19 @@ abbrev pub value_at : Option (Option Value) → Option Value
 value_at None = None
 value_at (Some value) = value
 
--- the values of names, where they stand by number
-abbrev pub known_by : List (List ℕ) → List (Option Value) → Known
-known_by names values name = value_at (slice_get values (number_of names name))
+abbrev pub value_or : Option Value → Option (Option Value) → Option Value
+value_or start None = start
+value_or start (Some value) = value
+
+-- the values of names: by number where they have one, else those at the start of the pair
+abbrev pub known_by : Known → List (List ℕ) → List (Option Value) → Known
+known_by start names values name = value_or (start name) (slice_get values (number_of names name))
 
 -- ---- statements
 
--- the state that values by number and slots stand for
-abbrev pub pair_state : List (List ℕ) → List (Option Value) → List (Option Value) → PairState
-pair_state names values slots = record { known = known_by names values; given = slots }
+-- the state that values by number and slots stand for, in a pair that begins so
+abbrev pub pair_state : Known → List (List ℕ) → List (Option Value) → List (Option Value) → PairState
+pair_state start names values slots = record { known = known_by start names values; given = slots }
 
 abbrev pub HasPlace : List (List ℕ) → List ℕ → Type 0
 HasPlace names name = number_of names name < length names

@@ -1,13 +1,16 @@
 ghost use Rattle.std.specs.Prelude.{◌≡◌, take, drop};
 ghost use Rattle.kern_meaning.specs.Links as rules;
 
+use crate::variable::Variable;
 use kern_types::ExprType;
 
 /// What a name or a form of a kernel is resolved to. The links of a kernel stand in text order.
 #[derive(Clone, Copy, Debug, PartialEq, Eq, Hash)]
 pub(crate) enum Link {
-    /// A name that is read or assigned, by its number.
-    Name(usize),
+    /// A name that is assigned, by its number.
+    Assigned(usize),
+    /// A name that is only read, by what it is declared as.
+    Declared(Variable),
     /// The type of the FORCE variable to which a `+=` gives.
     Force(Option<ExprType>),
     /// So many links after this one are those of an operand, a block or a statement; what follows it has
@@ -42,7 +45,7 @@ pub(crate) fn number_at(links: &[Link]) -> Option<usize>
     ensures { result ≡ rules.number_at links.now }
 {
     match links.first() {
-        Some(Link::Name(number)) => Some(*number),
+        Some(Link::Assigned(number)) => Some(*number),
         _ => None,
     }
 }

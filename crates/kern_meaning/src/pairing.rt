@@ -72,6 +72,8 @@ fn run(
     let walk = Walk {
         decls: k.decls.as_slice(),
         names,
+        i,
+        j,
         coincident: is_same_place(i.at, j.at),
     };
     walk.block(k.body.as_slice(), links, 1, 0, values, slots)?;

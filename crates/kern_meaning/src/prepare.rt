@@ -1,11 +1,12 @@
 ghost use Rattle.std.specs.Prelude.{◌≡◌, ◌++◌, None, OnOk, IfOk, map, replicate};
+ghost use Rattle.kern_types.specs.Names.{declaration as declaration_of};
 ghost use Rattle.kern_types.specs.Statements.{slots_in};
 ghost use Rattle.kern_meaning.specs.Prepared.{IsMadeFor};
 ghost use Rattle.kern_meaning.specs.Variables as rules;
 ghost use Rattle.kern_meaning.specs.Walks.{assigned_by, assigned_in, names_of as all_names};
 
 use crate::resolve::block_links;
-use crate::variable::{Variable, resolved};
+use crate::variable::{Variable, variable_of};
 use crate::{Scratch, Value};
 use kern_token::Name;
 use kern_tree::{Act, Decl, Kernel, Stmt};
@@ -21,7 +22,7 @@ pub fn for_kernel(alloc: Global, t: &Typed) -> Result<Scratch, OutOfMemory>
     let k = kernel(t);
     let names = names_of(alloc, k)?;
     let links = block_links(alloc, &names, k.decls.as_slice(), k.body.as_slice())?;
-    let variables = variables_of(alloc, k.decls.as_slice())?;
+    let variables = variables_of(alloc, k.decls.as_slice(), &names)?;
     let values = nothing(alloc, names.len())?;
     let given = nothing(alloc, slots(t) as usize)?;
     Ok(Scratch {
@@ -33,23 +34,13 @@ pub fn for_kernel(alloc: Global, t: &Typed) -> Result<Scratch, OutOfMemory>
     })
 }
 
-// The names that are declared, and then those that are assigned.
+// The names that are assigned.
 fn names_of(alloc: Global, k: &Kernel) -> Result<Vec<Name>, AllocError>
     ensures { IfOk result (λ names. names.items ≡ all_names k.now) }
 {
     let mut names = Vec::new(alloc);
-    push_declared(&mut names, k.decls.as_slice())?;
     push_assigned(&mut names, k.body.as_slice())?;
     Ok(names)
-}
-
-fn push_declared(names: &mut Vec<Name>, decls: &[Decl]) -> Result<(), AllocError>
-    ensures { OnOk result (names.new.items ≡ names.old.items ++ map (λ decl. decl.name) decls.now) }
-{
-    for decl in decls {
-        names.push(decl.name.clone()?)?;
-    }
-    Ok(())
 }
 
 #[cycle(assigned)]
@@ -79,12 +70,14 @@ fn push_assigned_by(names: &mut Vec<Name>, act: &Act) -> Result<(), AllocError>
     }
 }
 
-fn variables_of(alloc: Global, decls: &[Decl]) -> Result<Vec<Variable>, AllocError>
-    ensures { IfOk result (λ variables. variables.items ≡ map (λ decl. rules.resolved decl.what) decls.now) }
+// What the names are declared as, which a typed kernel assigns to none that is declared.
+fn variables_of(alloc: Global, decls: &[Decl], names: &[Name]) -> Result<Vec<Variable>, AllocError>
+    ensures { IfOk result (λ variables. variables.items
+        ≡ map (λ name. rules.variable_of (declaration_of decls.now name)) names.now) }
 {
     let mut variables = Vec::new(alloc);
-    for decl in decls {
-        variables.push(resolved(&decl.what))?;
+    for name in names {
+        variables.push(variable_of(decls, name))?;
     }
     Ok(variables)
 }

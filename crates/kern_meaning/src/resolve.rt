@@ -6,6 +6,7 @@ ghost use Rattle.kern_meaning.specs.Pair as meanings;
 ghost use Rattle.kern_meaning.specs.Walks.{number_of as numbered};
 
 use crate::link::Link;
+use crate::variable::variable_of;
 use kern_token::Name;
 use kern_tree::{Act, Decl, DeclKind, Expr, Form, Stmt};
 use kern_types::{ExprType, declaration};
@@ -40,15 +41,15 @@ fn act_links(
 {
     match act {
         Act::Set(name, value) => {
-            let own = expr_links(alloc, names, value)?;
-            after(alloc, Link::Name(number_of(names, name)), &own)
+            let own = expr_links(alloc, names, decls, value)?;
+            after(alloc, Link::Assigned(number_of(names, name)), &own)
         }
         Act::Give(name, value) => {
-            let own = expr_links(alloc, names, value)?;
+            let own = expr_links(alloc, names, decls, value)?;
             after(alloc, Link::Force(force_of(decls, name)), &own)
         }
         Act::If(condition, body, others) => {
-            let condition = expr_links(alloc, names, condition)?;
+            let condition = expr_links(alloc, names, decls, condition)?;
             let body = block_links(alloc, names, decls, body.as_slice())?;
             let others = block_links(alloc, names, decls, others.as_slice())?;
             let blocks = joined(alloc, &body, &others)?;
@@ -57,27 +58,32 @@ fn act_links(
     }
 }
 
-fn expr_links(alloc: Global, names: &[Name], expr: &Expr) -> Result<Vec<Link>, AllocError>
-    ensures { IfOk result (λ links. links.items ≡ rules.links_of names.now expr.now) }
+fn expr_links(
+    alloc: Global,
+    names: &[Name],
+    decls: &[Decl],
+    expr: &Expr,
+) -> Result<Vec<Link>, AllocError>
+    ensures { IfOk result (λ links. links.items ≡ rules.links_of names.now decls.now expr.now) }
 {
     match &expr.form {
         Form::Number(_, _) => Ok(Vec::new(alloc)),
-        Form::Name(name) => after(alloc, Link::Name(number_of(names, name)), &[]),
-        Form::Part(a, _) => expr_links(alloc, names, a.get()),
-        Form::One(_, a) => expr_links(alloc, names, a.get()),
+        Form::Name(name) => after(alloc, link_of(names, decls, name), &[]),
+        Form::Part(a, _) => expr_links(alloc, names, decls, a.get()),
+        Form::One(_, a) => expr_links(alloc, names, decls, a.get()),
         Form::Two(_, a, b) => {
-            let first = expr_links(alloc, names, a.get())?;
-            let second = expr_links(alloc, names, b.get())?;
+            let first = expr_links(alloc, names, decls, a.get())?;
+            let second = expr_links(alloc, names, decls, b.get())?;
             joined(alloc, &first, &second)
         }
         Form::Three(_, a, b, c) => {
-            let first = expr_links(alloc, names, a.get())?;
-            let second = expr_links(alloc, names, b.get())?;
-            let third = expr_links(alloc, names, c.get())?;
+            let first = expr_links(alloc, names, decls, a.get())?;
+            let second = expr_links(alloc, names, decls, b.get())?;
+            let third = expr_links(alloc, names, decls, c.get())?;
             let later = joined(alloc, &second, &third)?;
             joined(alloc, &first, &later)
         }
-        Form::To(_, a) => expr_links(alloc, names, a.get()),
+        Form::To(_, a) => expr_links(alloc, names, decls, a.get()),
     }
 }
 
@@ -106,6 +112,17 @@ fn after(alloc: Global, first: Link, others: &[Link]) -> Result<Vec<Link>, Alloc
     links.push(first)?;
     links.extend_from_slice(others)?;
     Ok(links)
+}
+
+fn link_of(names: &[Name], decls: &[Decl], name: &Name) -> Link
+    ensures { result ≡ rules.link_of names.now decls.now name.now }
+{
+    let number = number_of(names, name);
+    if number < names.len() {
+        Link::Assigned(number)
+    } else {
+        Link::Declared(variable_of(decls, name))
+    }
 }
 
 // A name's number: its first place among the names, or their count.

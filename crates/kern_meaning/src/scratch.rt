@@ -7,11 +7,11 @@ use std::marker::Model;
 /// What the executor keeps of a kernel, and what the last pair gave.
 #[derive(Debug, Drop)]
 pub struct Scratch {
-    /// The names that are declared, and then those that are assigned. A name's number is its first place.
+    /// The names that are assigned. A name's number is its first place.
     pub(crate) names: Vec<Name>,
-    /// What the statements are resolved to.
+    /// What the statements are resolved to, in text order.
     pub(crate) links: Vec<Link>,
-    /// What the declarations are resolved to, by number.
+    /// What the names are declared as, by number.
     pub(crate) variables: Vec<Variable>,
     /// The values of names, by number.
     pub(crate) values: Vec<Option<Value>>,

@@ -1,23 +1,27 @@
 ghost use Rattle.std.specs.Prelude.{◌≡◌, ◌+◌, ◌^◌, ◌<◌, [], ◌∷◌, Some, slice_set};
 ghost use Rattle.kern_types.specs.Names.{declaration as declaration_of};
 ghost use Rattle.kern_meaning.specs.Links as resolved;
-ghost use Rattle.kern_meaning.specs.Names.{with_value};
+ghost use Rattle.kern_meaning.specs.Names.{known_at_start};
 ghost use Rattle.kern_meaning.specs.Pair as rules;
-ghost use Rattle.kern_meaning.specs.Walks.{HavePlaces, Runs, assigned_by, assigned_in, known_by, pair_state};
+ghost use Rattle.kern_meaning.specs.Walks.{HavePlaces, Runs, assigned_by, assigned_in, pair_state};
 
 use crate::expression::{contribution_of, number_value_of, truth_of};
 use crate::link::{Link, force_at, later, number_at, split};
 use crate::{PairFault, PairKind, PairStop, Stop, Value};
 use kern_token::Name;
 use kern_tree::{Act, Decl, Stmt};
+use pf_model::{Body, Item};
 use pf_num::NumFault;
 
 /// What the statements of a kernel need for a pair. A statement is called with its number and with the
 /// count of `+=` before it, and answers those of the next.
 #[derive(Clone, Copy)]
 pub(crate) struct Walk<'s> {
+    /// What the contracts read: the links say the same.
     pub(crate) decls: &'s [Decl],
     pub(crate) names: &'s [Name],
+    pub(crate) i: &'s Body,
+    pub(crate) j: &'s Item,
     /// Whether the item's centre is the particle's position.
     pub(crate) coincident: bool,
 }
@@ -40,7 +44,8 @@ impl Walk<'_> {
         requires places { HavePlaces self.now.names.now values.old (assigned_in block.now) }
         requires links { links.now ≡ resolved.links_of_block self.now.names.now self.now.decls.now block.now }
         ensures { Runs result (rules.block_meaning self.now.decls.now self.now.coincident block.now) first before
-            (pair_state self.now.names.now values.old slots.old) (pair_state self.now.names.now values.new slots.new) }
+            (pair_state (known_at_start self.now.decls.now self.now.i.now self.now.j.now) self.now.names.now values.old slots.old)
+            (pair_state (known_at_start self.now.decls.now self.now.i.now self.now.j.now) self.now.names.now values.new slots.new) }
     {
         let mut number = first;
         let mut slot = before;
@@ -72,18 +77,19 @@ impl Walk<'_> {
         requires places { HavePlaces self.now.names.now values.old (assigned_by act.now) }
         requires links { links.now ≡ resolved.links_of_act self.now.names.now self.now.decls.now act.now }
         ensures { Runs result (rules.act_meaning self.now.decls.now self.now.coincident act.now) number slot
-            (pair_state self.now.names.now values.old slots.old) (pair_state self.now.names.now values.new slots.new) }
+            (pair_state (known_at_start self.now.decls.now self.now.i.now self.now.j.now) self.now.names.now values.old slots.old)
+            (pair_state (known_at_start self.now.decls.now self.now.i.now self.now.j.now) self.now.names.now values.new slots.new) }
     {
         match act {
             Act::Set(_, value) => {
-                let held = number_value_of(value, later(links), self.names, values);
+                let held = number_value_of(value, later(links), self, values);
                 let held = at_statement(self.coincident, number, held)?;
                 assign(values, number_at(links), held);
                 Ok((number + 1, slot))
             }
             Act::Give(_, value) => {
                 let force = force_at(links);
-                let given = contribution_of(value, force, later(links), self.names, values);
+                let given = contribution_of(value, force, later(links), self, values);
                 let given = at_statement(self.coincident, number, given)?;
                 give(slots, slot, given);
                 Ok((number + 1, slot + 1))
@@ -91,7 +97,7 @@ impl Walk<'_> {
             Act::If(condition, body, others) => {
                 let parts = split(links);
                 let blocks = split(parts.1);
-                let holds = truth_of(condition, parts.0, self.names, values);
+                let holds = truth_of(condition, parts.0, self, values);
                 if at_statement(self.coincident, number, holds)? {
                     let end = self.block(
                         body.as_slice(),

@@ -1,9 +1,11 @@
 ghost use Rattle.std.specs.Prelude.{◌≡◌};
+ghost use Rattle.kern_types.specs.Names.{declaration as declaration_of};
 ghost use Rattle.kern_meaning.specs.Variables as rules;
 
 use crate::Value;
 use kern_token::Name;
-use kern_tree::{DeclKind, Kind};
+use kern_tree::{Decl, DeclKind, Kind};
+use kern_types::declaration;
 use pf_model::{Body, Field, Item};
 
 /// What a declaration is resolved to.
@@ -19,8 +21,17 @@ pub(crate) enum Variable {
     Nothing,
 }
 
-/// What a declaration is resolved to.
-pub(crate) fn resolved(what: &DeclKind) -> Variable
+/// What a name is resolved to, by its declaration.
+pub(crate) fn variable_of(decls: &[Decl], name: &Name) -> Variable
+    ensures { result ≡ rules.variable_of (declaration_of decls.now name.now) }
+{
+    match declaration(decls, name.as_bytes()) {
+        Some(decl) => resolved(&decl.what),
+        None => Variable::Nothing,
+    }
+}
+
+fn resolved(what: &DeclKind) -> Variable
     ensures { result ≡ rules.resolved what.now }
 {
     match what {

@@ -1,6 +1,7 @@
 use Rattle.std.proofs.Common.{arith, ap, sym, ◌∙◌, Ok, ◌+◌, drop, refl}
 use Rattle.std.proofs.lemmas.Result.{err_from_is_err_and}
 use Rattle.kern_meaning.specs.Links.{assigned}
+use Rattle.kern_meaning.specs.Names.{known_at_start}
 use Rattle.kern_meaning.specs.Pair.{at_statement}
 use Rattle.kern_meaning.specs.Walks.{pair_state, assigned_by, assigned_in}
 use Rattle.kern_meaning.proofs.Meanings.{then_runs, then_stops, else_runs, if_counts, if_slots, if_assigned, places_first, places_rest, block_smaller, other_smaller, member_smaller, next_is, next_count, next_slots, block_stops, block_goes_on}
@@ -51,14 +52,14 @@ act-block-requires-else-branch t c =
 pub act-returns-in_ok-end-in-If : goal.act-returns-in_ok-end-in-If
 act-returns-in_ok-end-in-If t c =
     then_runs c.args.self.now.decls.now c.args.self.now.coincident c.args.act.now c.in-If.condition c.in-If.body c.in-If.others c.as_slice.result.now c.as_slice-then-branch.result.now c.in-If.is c.as_slice.ensures c.as_slice-then-branch.ensures c.args.number c.args.slot
-    (pair_state c.args.self.now.names.now c.args.values.now c.args.slots.now) (pair_state c.args.self.now.names.now c.block.new.values c.block.new.slots) c.in_ok-end-in-If.end.0 c.in_ok-end-in-If.end.1 c.past.result.0 c.past.result.1
+    (pair_state (known_at_start c.args.self.now.decls.now c.args.self.now.i.now c.args.self.now.j.now) c.args.self.now.names.now c.args.values.now c.args.slots.now) (pair_state (known_at_start c.args.self.now.decls.now c.args.self.now.i.now c.args.self.now.j.now) c.args.self.now.names.now c.block.new.values c.block.new.slots) c.in_ok-end-in-If.end.0 c.in_ok-end-in-If.end.1 c.past.result.0 c.past.result.1
     (ap (at_statement c.args.self.now.coincident c.args.number) (sym c.truth_of-holds.ensures) ∙ sym c.in_ok-at_statement-in-If.ensures ∙ ap Ok c.if-branch.true)
     c.in_ok-end-in-If.ensures.0 c.in_ok-end-in-If.ensures.1 c.in_ok-end-in-If.ensures.2 c.past.ensures.number c.past.ensures.slot
 
 pub act-returns-else-branch : goal.act-returns-else-branch
 act-returns-else-branch t c =
     else_runs c.args.self.now.decls.now c.args.self.now.coincident c.args.act.now c.in-If.condition c.in-If.body c.in-If.others c.as_slice-else-branch.result.now c.as_slice-else-branch-2.result.now c.in-If.is c.as_slice-else-branch.ensures c.as_slice-else-branch-2.ensures c.args.number c.args.slot
-    (pair_state c.args.self.now.names.now c.args.values.now c.args.slots.now) (pair_state c.args.self.now.names.now c.block-else-branch.new.values c.block-else-branch.new.slots) c.block-else-branch.result c.past-start.result.0 c.past-start.result.1
+    (pair_state (known_at_start c.args.self.now.decls.now c.args.self.now.i.now c.args.self.now.j.now) c.args.self.now.names.now c.args.values.now c.args.slots.now) (pair_state (known_at_start c.args.self.now.decls.now c.args.self.now.i.now c.args.self.now.j.now) c.args.self.now.names.now c.block-else-branch.new.values c.block-else-branch.new.slots) c.block-else-branch.result c.past-start.result.0 c.past-start.result.1
     (ap (at_statement c.args.self.now.coincident c.args.number) (sym c.truth_of-holds.ensures) ∙ sym c.in_ok-at_statement-in-If.ensures ∙ ap Ok c.if-branch.false)
     c.past-start.ensures.number c.past-start.ensures.slot c.block-else-branch.ensures
 
@@ -84,7 +85,7 @@ block-returns-in_err-next t c =
     let is = next_is c.args.block.now c.loop-stmt.stmt-index c.stmt-item.result c.loop-stmt-test.true c.stmt-item.is in
     let fault = err_from_is_err_and c.from_residual.result c.from_residual.ensures.1 in
     rw (fault.1, fault.2)
-    (block_stops c.args.self.now.decls.now c.args.self.now.coincident c.args.block.now c.loop-stmt.stmt-index c.stmt-item.result is c.loop-stmt.number c.loop-stmt.slot (pair_state c.args.self.now.names.now c.loop-stmt.values c.loop-stmt.slots) _ c.loop-stmt.invariant.ran _ c.in_err-next.ensures)
+    (block_stops c.args.self.now.decls.now c.args.self.now.coincident c.args.block.now c.loop-stmt.stmt-index c.stmt-item.result is c.loop-stmt.number c.loop-stmt.slot (pair_state (known_at_start c.args.self.now.decls.now c.args.self.now.i.now c.args.self.now.j.now) c.args.self.now.names.now c.loop-stmt.values c.loop-stmt.slots) _ c.loop-stmt.invariant.ran _ c.in_err-next.ensures)
 
 pub block-loop-stmt-preserved : goal.block-loop-stmt-preserved
 block-loop-stmt-preserved t c =
@@ -93,8 +94,8 @@ block-loop-stmt-preserved t c =
     let count = next_count c.args.self.now.decls.now c.args.self.now.coincident c.args.block.now c.loop-stmt.stmt-index c.stmt-item.result is in
     let slots = next_slots c.args.self.now.decls.now c.args.self.now.coincident c.args.block.now c.loop-stmt.stmt-index c.stmt-item.result is in
     record {
-      ran = block_goes_on c.args.self.now.decls.now c.args.self.now.coincident c.args.block.now c.loop-stmt.stmt-index c.stmt-item.result is c.loop-stmt.number c.loop-stmt.slot (pair_state c.args.self.now.names.now c.loop-stmt.values c.loop-stmt.slots) _ c.loop-stmt.invariant.ran
-          (pair_state c.args.self.now.names.now c.act.new.values c.act.new.slots) c.in_ok-next.next.0 c.in_ok-next.next.1 c.in_ok-next.ensures.0 c.in_ok-next.ensures.1 c.in_ok-next.ensures.2;
+      ran = block_goes_on c.args.self.now.decls.now c.args.self.now.coincident c.args.block.now c.loop-stmt.stmt-index c.stmt-item.result is c.loop-stmt.number c.loop-stmt.slot (pair_state (known_at_start c.args.self.now.decls.now c.args.self.now.i.now c.args.self.now.j.now) c.args.self.now.names.now c.loop-stmt.values c.loop-stmt.slots) _ c.loop-stmt.invariant.ran
+          (pair_state (known_at_start c.args.self.now.decls.now c.args.self.now.i.now c.args.self.now.j.now) c.args.self.now.names.now c.act.new.values c.act.new.slots) c.in_ok-next.next.0 c.in_ok-next.next.1 c.in_ok-next.ensures.0 c.in_ok-next.ensures.1 c.in_ok-next.ensures.2;
       numbers = omega (arith, c.loop-stmt.invariant.numbers, count, c.in_ok-next.ensures.1);
       counts = omega (arith, c.loop-stmt.invariant.counts, slots, c.in_ok-next.ensures.2);
       places = places_rest c.args.self.now.names.now c.loop-stmt.values (assigned_in (drop c.loop-stmt.stmt-index c.args.block.now)) (assigned_by c.stmt-item.result.act) (assigned_in rest) (ap assigned_in is) c.loop-stmt.invariant.places c.act.new.values (omega (arith, c.act.auto.values));
@@ -103,7 +104,7 @@ block-loop-stmt-preserved t c =
 
 pub act-returns-in_ok-held-in-Set : goal.act-returns-in_ok-held-in-Set
 act-returns-in_ok-held-in-Set t c =
-    set_runs c.args.self.now.names.now c.args.self.now.decls.now c.args.act.now c.args.self.now.coincident c.in-Set.field-0 c.in-Set.value c.in-Set.is c.args.links.now c.requires.links c.args.number c.args.slot
+    set_runs c.args.self.now.names.now c.args.self.now.decls.now c.args.act.now c.args.self.now.coincident (known_at_start c.args.self.now.decls.now c.args.self.now.i.now c.args.self.now.j.now) c.in-Set.field-0 c.in-Set.value c.in-Set.is c.args.links.now c.requires.links c.args.number c.args.slot
     c.args.values.now c.assign.new.values c.args.slots.now c.requires.places c.in_ok-held-in-Set.held (ap (at_statement c.args.self.now.coincident c.args.number) (sym c.number_value_of-held.ensures) ∙ sym c.in_ok-held-in-Set.ensures)
     (c.assign.ensures ∙ ap (λ k. assigned c.args.values.now k c.in_ok-held-in-Set.held) c.number_at.ensures)
 
@@ -128,6 +129,6 @@ act-returns-in_err-end-in-If t c =
     let fault = err_from_is_err_and c.from_residual-in_err-end-in-If.result c.from_residual-in_err-end-in-If.ensures.1 in
     rw (fault.1, fault.2)
     (then_stops c.args.self.now.decls.now c.args.self.now.coincident c.args.act.now c.in-If.condition c.in-If.body c.in-If.others c.as_slice.result.now c.in-If.others c.in-If.is c.as_slice.ensures refl c.args.number c.args.slot
-    (pair_state c.args.self.now.names.now c.args.values.now c.args.slots.now) (pair_state c.args.self.now.names.now c.block.new.values c.block.new.slots) _
+    (pair_state (known_at_start c.args.self.now.decls.now c.args.self.now.i.now c.args.self.now.j.now) c.args.self.now.names.now c.args.values.now c.args.slots.now) (pair_state (known_at_start c.args.self.now.decls.now c.args.self.now.i.now c.args.self.now.j.now) c.args.self.now.names.now c.block.new.values c.block.new.slots) _
     (ap (at_statement c.args.self.now.coincident c.args.number) (sym c.truth_of-holds.ensures) ∙ sym c.in_ok-at_statement-in-If.ensures ∙ ap Ok c.if-branch.true)
     c.in_err-end-in-If.ensures)
