@@ -1,6 +1,7 @@
-ghost use Rattle.std.specs.Prelude.{◌≡◌, length};
+ghost use Rattle.std.specs.Prelude.{◌≡◌, ◌++◌, length};
+ghost use Rattle.kern_tree.specs.declared.expr.Form.TheOpen as layers;
 ghost use Rattle.kern_meaning.specs.Expressions as meanings;
-ghost use Rattle.kern_meaning.specs.Links.{links_of, value_by};
+ghost use Rattle.kern_meaning.specs.Links.{counted, links_of, value_by};
 ghost use Rattle.kern_meaning.specs.Names.{known_at_start, name_value as valued};
 ghost use Rattle.kern_meaning.specs.Operators as rules;
 ghost use Rattle.kern_meaning.specs.Walks.{known_by};
@@ -12,10 +13,15 @@ use crate::operators::{
 use crate::statement::Walk;
 use crate::variable::variable_value;
 use crate::{Stop, Value};
-use kern_tree::{Expr, Form, Kind, Op2};
+use kern_tree::{Expr, Form, Kind, Op1, Op2, Op3};
 use kern_types::ExprType;
+use pf_geom::Axis;
+
+// Each form has a function of its own, which is not inlined: a call pays for the room of all the results that it may
+// need, and most nodes need one or two.
 
 /// The value of an expression, where the names that are assigned have these values, by number.
+#[cycle(expressions)]
 pub(crate) fn value_of(
     expr: &Expr,
     links: &[Link],
@@ -24,48 +30,157 @@ pub(crate) fn value_of(
 ) -> Result<Value, Stop>
     requires links { links.now ≡ links_of walk.now.names.now walk.now.decls.now expr.now }
     requires same { length values.now ≡ length walk.now.names.now }
-    ensures { result ≡ meanings.value_of (known_by (known_at_start walk.now.decls.now walk.now.i.now walk.now.j.now) walk.now.names.now values.now) expr.now }
+    ensures { result ≡ meanings.value_of (known_by
+        (known_at_start walk.now.decls.now walk.now.i.now walk.now.j.now) walk.now.names.now values.now) expr.now }
 {
     match &expr.form {
         Form::Number(mantissa, scale) => literal_value(*mantissa, *scale),
         Form::Name(_) => read(walk, values, links),
-        Form::Part(a, axis) => part_value(*axis, value_of(a.get(), links, walk, values)?),
-        Form::One(op, a) => one_value(*op, value_of(a.get(), links, walk, values)?),
-        Form::Two(op, a, b) => {
-            let parts = split(links);
-            let a = value_of(a.get(), parts.0, walk, values)?;
-            match op {
-                Op2::And if !truth(a)? => Ok(Value::Condition(false)),
-                Op2::Or if truth(a)? => Ok(Value::Condition(true)),
-                Op2::And | Op2::Or => {
-                    let b = truth(value_of(b.get(), parts.1, walk, values)?)?;
-                    Ok(Value::Condition(b))
-                }
-                _ => two_value(*op, a, value_of(b.get(), parts.1, walk, values)?),
-            }
-        }
-        Form::Three(op, a, b, c) => {
-            let parts = split(links);
-            let a = value_of(a.get(), parts.0, walk, values)?;
-            let later = split(parts.1);
-            let b = value_of(b.get(), later.0, walk, values)?;
-            let c = value_of(c.get(), later.1, walk, values)?;
-            three_value(*op, a, b, c)
-        }
-        Form::To(scale, a) => to_value(*scale, value_of(a.get(), links, walk, values)?),
+        Form::Part(a, axis) => part_of(*axis, a.get(), links, walk, values),
+        Form::One(op, a) => one_of(*op, a.get(), links, walk, values),
+        Form::Two(op, a, b) => two_of(*op, a.get(), b.get(), links, walk, values),
+        Form::Three(op, a, b, c) => three_of(*op, a.get(), b.get(), c.get(), links, walk, values),
+        Form::To(scale, a) => to_of(*scale, a.get(), links, walk, values),
     }
 }
 
+#[inline(never)]
+#[cycle(expressions)]
+fn part_of(
+    axis: Axis,
+    a: &Expr,
+    links: &[Link],
+    walk: &Walk,
+    values: &[Option<Value>],
+) -> Result<Value, Stop>
+    requires links { links.now ≡ links_of walk.now.names.now walk.now.decls.now a.now }
+    requires same { length values.now ≡ length walk.now.names.now }
+    ensures { result ≡ meanings.form_meaning (known_by
+        (known_at_start walk.now.decls.now walk.now.i.now walk.now.j.now) walk.now.names.now values.now)
+        (layers.Part (meanings.value_of (known_by
+        (known_at_start walk.now.decls.now walk.now.i.now walk.now.j.now) walk.now.names.now values.now) a.now) axis) }
+{
+    part_value(axis, value_of(a, links, walk, values)?)
+}
+
+#[inline(never)]
+#[cycle(expressions)]
+fn one_of(
+    op: Op1,
+    a: &Expr,
+    links: &[Link],
+    walk: &Walk,
+    values: &[Option<Value>],
+) -> Result<Value, Stop>
+    requires links { links.now ≡ links_of walk.now.names.now walk.now.decls.now a.now }
+    requires same { length values.now ≡ length walk.now.names.now }
+    ensures { result ≡ meanings.form_meaning (known_by
+        (known_at_start walk.now.decls.now walk.now.i.now walk.now.j.now) walk.now.names.now values.now)
+        (layers.One op (meanings.value_of (known_by
+        (known_at_start walk.now.decls.now walk.now.i.now walk.now.j.now) walk.now.names.now values.now) a.now)) }
+{
+    one_value(op, value_of(a, links, walk, values)?)
+}
+
+#[inline(never)]
+#[cycle(expressions)]
+fn to_of(
+    scale: u32,
+    a: &Expr,
+    links: &[Link],
+    walk: &Walk,
+    values: &[Option<Value>],
+) -> Result<Value, Stop>
+    requires links { links.now ≡ links_of walk.now.names.now walk.now.decls.now a.now }
+    requires same { length values.now ≡ length walk.now.names.now }
+    ensures { result ≡ meanings.form_meaning (known_by
+        (known_at_start walk.now.decls.now walk.now.i.now walk.now.j.now) walk.now.names.now values.now)
+        (layers.To scale (meanings.value_of (known_by
+        (known_at_start walk.now.decls.now walk.now.i.now walk.now.j.now) walk.now.names.now values.now) a.now)) }
+{
+    to_value(scale, value_of(a, links, walk, values)?)
+}
+
+#[inline(never)]
+#[cycle(expressions)]
+fn two_of(
+    op: Op2,
+    a: &Expr,
+    b: &Expr,
+    links: &[Link],
+    walk: &Walk,
+    values: &[Option<Value>],
+) -> Result<Value, Stop>
+    requires links { links.now ≡ counted (links_of walk.now.names.now walk.now.decls.now a.now)
+        ++ links_of walk.now.names.now walk.now.decls.now b.now }
+    requires same { length values.now ≡ length walk.now.names.now }
+    ensures { result ≡ meanings.form_meaning (known_by
+        (known_at_start walk.now.decls.now walk.now.i.now walk.now.j.now) walk.now.names.now values.now)
+        (layers.Two op (meanings.value_of (known_by
+        (known_at_start walk.now.decls.now walk.now.i.now walk.now.j.now) walk.now.names.now values.now) a.now)
+        (meanings.value_of (known_by
+        (known_at_start walk.now.decls.now walk.now.i.now walk.now.j.now) walk.now.names.now values.now) b.now)) }
+{
+    let parts = split(links);
+    let first = value_of(a, parts.0, walk, values)?;
+    match op {
+        Op2::And if !truth(first)? => Ok(Value::Condition(false)),
+        Op2::Or if truth(first)? => Ok(Value::Condition(true)),
+        Op2::And | Op2::Or => {
+            let second = truth(value_of(b, parts.1, walk, values)?)?;
+            Ok(Value::Condition(second))
+        }
+        _ => two_value(op, first, value_of(b, parts.1, walk, values)?),
+    }
+}
+
+#[inline(never)]
+#[cycle(expressions)]
+fn three_of(
+    op: Op3,
+    a: &Expr,
+    b: &Expr,
+    c: &Expr,
+    links: &[Link],
+    walk: &Walk,
+    values: &[Option<Value>],
+) -> Result<Value, Stop>
+    requires links { links.now ≡ counted (links_of walk.now.names.now walk.now.decls.now a.now)
+        ++ (counted (links_of walk.now.names.now walk.now.decls.now b.now)
+        ++ links_of walk.now.names.now walk.now.decls.now c.now) }
+    requires same { length values.now ≡ length walk.now.names.now }
+    ensures { result ≡ meanings.form_meaning (known_by
+        (known_at_start walk.now.decls.now walk.now.i.now walk.now.j.now) walk.now.names.now values.now)
+        (layers.Three op (meanings.value_of (known_by
+        (known_at_start walk.now.decls.now walk.now.i.now walk.now.j.now) walk.now.names.now values.now) a.now)
+        (meanings.value_of (known_by
+        (known_at_start walk.now.decls.now walk.now.i.now walk.now.j.now) walk.now.names.now values.now) b.now)
+        (meanings.value_of (known_by
+        (known_at_start walk.now.decls.now walk.now.i.now walk.now.j.now) walk.now.names.now values.now) c.now)) }
+{
+    let parts = split(links);
+    let first = value_of(a, parts.0, walk, values)?;
+    let later = split(parts.1);
+    let second = value_of(b, later.0, walk, values)?;
+    let third = value_of(c, later.1, walk, values)?;
+    three_value(op, first, second, third)
+}
+
 // The value of the name that stands first.
+#[inline(never)]
 fn read(walk: &Walk, values: &[Option<Value>], links: &[Link]) -> Result<Value, Stop>
     ensures { result ≡ valued (value_by walk.now.i.now walk.now.j.now values.now links.now) }
 {
-    let value = match links.first() {
-        Some(Link::Assigned(number)) => values.get(*number).copied().unwrap_or(None),
-        Some(Link::Declared(variable)) => variable_value(*variable, walk.i, walk.j),
-        _ => None,
-    };
-    value.ok_or(Stop::NoResult)
+    match links.first() {
+        Some(Link::Assigned(number)) => match values.get(*number) {
+            Some(Some(value)) => Ok(*value),
+            _ => Err(Stop::NoResult),
+        },
+        Some(Link::Declared(variable)) => {
+            variable_value(*variable, walk.i, walk.j).ok_or(Stop::NoResult)
+        }
+        _ => Err(Stop::NoResult),
+    }
 }
 
 /// The value of an expression that is a num or a vec.
@@ -77,7 +192,8 @@ pub(crate) fn number_value_of(
 ) -> Result<Value, Stop>
     requires links { links.now ≡ links_of walk.now.names.now walk.now.decls.now expr.now }
     requires same { length values.now ≡ length walk.now.names.now }
-    ensures { result ≡ meanings.number_value_of (known_by (known_at_start walk.now.decls.now walk.now.i.now walk.now.j.now) walk.now.names.now values.now) expr.now }
+    ensures { result ≡ meanings.number_value_of (known_by
+        (known_at_start walk.now.decls.now walk.now.i.now walk.now.j.now) walk.now.names.now values.now) expr.now }
 {
     number(value_of(expr, links, walk, values)?)
 }
@@ -91,7 +207,8 @@ pub(crate) fn truth_of(
 ) -> Result<bool, Stop>
     requires links { links.now ≡ links_of walk.now.names.now walk.now.decls.now expr.now }
     requires same { length values.now ≡ length walk.now.names.now }
-    ensures { result ≡ meanings.truth_of (known_by (known_at_start walk.now.decls.now walk.now.i.now walk.now.j.now) walk.now.names.now values.now) expr.now }
+    ensures { result ≡ meanings.truth_of (known_by
+        (known_at_start walk.now.decls.now walk.now.i.now walk.now.j.now) walk.now.names.now values.now) expr.now }
 {
     truth(value_of(expr, links, walk, values)?)
 }
@@ -106,7 +223,9 @@ pub(crate) fn contribution_of(
 ) -> Result<Value, Stop>
     requires links { links.now ≡ links_of walk.now.names.now walk.now.decls.now expr.now }
     requires same { length values.now ≡ length walk.now.names.now }
-    ensures { result ≡ meanings.contribution_of (known_by (known_at_start walk.now.decls.now walk.now.i.now walk.now.j.now) walk.now.names.now values.now) force expr.now }
+    ensures { result ≡ meanings.contribution_of (known_by
+        (known_at_start walk.now.decls.now walk.now.i.now walk.now.j.now) walk.now.names.now values.now) force
+        expr.now }
 {
     taken_by(force, value_of(expr, links, walk, values)?)
 }
