@@ -1,3 +1,5 @@
+mod faults;
+mod forces;
 mod inputs;
 mod kernels;
 mod steps;

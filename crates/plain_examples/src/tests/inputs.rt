@@ -7,22 +7,57 @@ use kern_parse::parse;
 use kern_token::{MOST_TEXT, tokens};
 use kern_types::{Typed, check};
 use pf_model::Body;
-use plain_run::RunSetup;
+use plain_run::{RunSetup, SlowStop, slow_text};
+use run_model::{Fault, What};
 use std::alloc::Global;
 use std::process::Abort;
 use std::test::Fail;
 
-/// The run of these texts: the lines of a deck after its three names, a kernel, and the lines of particles.
-pub fn run_of(
-    rt: &impl Abort,
-    alloc: Global,
-    deck: &str,
-    kernel: &str,
-    particles: &str,
-) -> Result<RunSetup, Fail> {
-    let kernel = typed(rt, alloc, kernel)?;
-    let bodies = bodies_in(rt, alloc, particles)?;
-    Ok(run(read_deck(rt, alloc, deck)?, kernel, bodies))
+/// The inputs of a run.
+#[derive(Clone, Copy)]
+pub(crate) struct Inputs<'a> {
+    /// The lines of the deck after those that name its files.
+    pub(crate) settings: &'a str,
+    pub(crate) kernel: &'a str,
+    /// The whole particle file.
+    pub(crate) particles: &'a str,
+}
+
+/// That the step of the run of these inputs says this.
+pub(crate) fn says(
+    rt: &(impl Abort + AllocGlobal),
+    inputs: Inputs<'_>,
+    step: u32,
+    text: &str,
+) -> Result<(), Fail> {
+    let run = run_of(rt, inputs)?;
+    let said = slow_text(rt.alloc(), &run, step)?;
+    assert_eq!(rt; said.as_slice(), text.as_bytes());
+    Ok(())
+}
+
+/// That the step of the run of these inputs has this first fault.
+pub(crate) fn faults(
+    rt: &(impl Abort + AllocGlobal),
+    inputs: Inputs<'_>,
+    step: u32,
+    id: u32,
+    what: What,
+) -> Result<(), Fail> {
+    let run = run_of(rt, inputs)?;
+    let fault = slow_text(rt.alloc(), &run, step).err();
+    assert_eq!(rt; fault, Some(SlowStop::Numeric(Fault { id, what })));
+    Ok(())
+}
+
+// The run of these inputs.
+fn run_of(rt: &(impl Abort + AllocGlobal), inputs: Inputs<'_>) -> Result<RunSetup, Fail> {
+    let alloc = rt.alloc();
+    let settings = inputs.settings;
+    let deck = format!(in alloc; "kernel k\nparticles p\nout o\n{settings}")?;
+    let kernel = typed(rt, alloc, inputs.kernel)?;
+    let bodies = bodies_in(rt, alloc, inputs.particles)?;
+    Ok(run(read_deck(rt, alloc, deck.as_str())?, kernel, bodies))
 }
 
 // The same, from what the texts spell.

@@ -1,5 +1,7 @@
-// The sum of what others lie away.
-pub const PULL: &str = "\
+// The kernels of the examples.
+
+/// The sum of the ways to all particles.
+pub(crate) const PULL: &str = "\
 EPI vec S0 xi : pos;
 EPJ vec S0 xj : pos;
 FORCE vec S16 acc sum;
@@ -7,7 +9,8 @@ FORCE vec S0 pull sum;
 pull += xj - xi;
 ";
 
-pub const GRAVITY: &str = "\
+/// Gravity by whole numbers, which two particles at one place have none of.
+pub(crate) const GRAVITY: &str = "\
 EPI vec S0 xi : pos;
 EPJ vec S0 xj : pos;
 EPJ num S0 mj : mass;
@@ -19,8 +22,22 @@ r = isqrt(r2);
 acc += muldiv(g * mj, d, r2) / r;
 ";
 
-// The same, with the greatest squared distance.
-pub const GRAVITY_AND_TOP: &str = "\
+/// Gravity that is softened, so that two particles at one place don't pull.
+pub(crate) const SOFT_GRAVITY: &str = "\
+EPI vec S0 xi : pos;
+EPJ vec S0 xj : pos;
+EPJ num S0 mj : mass;
+FORCE vec S16 acc sum;
+PARAM S16 g = 1000000;
+PARAM S0 e = 1;
+d = xj - xi;
+r2 = d * d + e;
+r = isqrt(r2);
+acc += muldiv(g * mj, d, r2) / r;
+";
+
+/// Gravity, and the square of the way to the farthest particle.
+pub(crate) const FARTHEST: &str = "\
 EPI vec S0 xi : pos;
 EPJ vec S0 xj : pos;
 EPJ num S0 mj : mass;
@@ -34,9 +51,44 @@ acc += muldiv(g * mj, d, r2) / r;
 top += r2;
 ";
 
-pub const NONE_FOR_MASS_5: &str = "\
+/// Gravity between particles at different places.
+pub(crate) const GUARDED_GRAVITY: &str = "\
+EPI vec S0 xi : pos;
+EPJ vec S0 xj : pos;
+EPJ num S0 mj : mass;
+FORCE vec S16 acc sum;
+PARAM S16 g = 1000000;
+d = xj - xi;
+r2 = d * d;
+r = isqrt(r2);
+if r2 > 0 {
+  acc += muldiv(g * mj, d, r2) / r;
+}
+";
+
+/// A division by 0 where a particle of mass 5 exerts the force.
+pub(crate) const OVER_MASS: &str = "\
+EPJ num S0 mj : mass;
+FORCE vec S16 acc sum;
+FORCE num S0 n sum;
+n += 1 / (mj - 5);
+";
+
+/// A division by 0 where a particle of mass 5 receives the force.
+pub(crate) const OVER_OWN_MASS: &str = "\
 EPI num S0 mi : mass;
 FORCE vec S16 acc sum;
 FORCE num S0 n sum;
 n += 1 / (mi - 5);
+";
+
+/// 2^22 times the attributes, felt by a particle of mass 9.
+pub(crate) const GREAT_SUM: &str = "\
+EPI num S0 mi : mass;
+EPJ num S0 cj : c0;
+FORCE vec S16 acc sum;
+FORCE num S22 n sum;
+if mi == 9 {
+  n += to(22, cj);
+}
 ";
