@@ -1,0 +1,7 @@
+pub mod Arrivals
+pub mod Handed
+pub mod Incoming
+pub mod Laws
+pub mod Opening
+pub mod Outgoing
+pub mod Posts

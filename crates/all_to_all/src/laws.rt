@@ -1,0 +1,9 @@
+ghost use Rattle.all_to_all.specs.Laws.{EachOtherSentOne};
+
+use let_inbox::Named;
+
+/// Where each rank sends one parcel to each other rank, by rank, what was sent for a rank is one parcel from each
+/// other, by rank.
+pub fn each_other_sent_one<M: Named>()
+    ensures { EachOtherSentOne M.target }
+{}
