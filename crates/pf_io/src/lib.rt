@@ -13,7 +13,7 @@ mod transfer;
 
 pub use decimal::push_decimal;
 pub use file_store::FileStore;
-pub use gate::{Gate, Open, Phase};
+pub use gate::{Gate, Meet, Open, Phase};
 pub use mem_store::{MemFile, MemStore};
 pub use store::{Store, StoreErr};
 pub use transfer::{ReadFault, WriteFault, read_all, write_all};

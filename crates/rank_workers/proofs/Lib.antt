@@ -1,0 +1,4 @@
+mod Places
+mod Dealing
+mod Gathered
+mod Driven
