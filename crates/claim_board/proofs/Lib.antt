@@ -1,3 +1,4 @@
 mod Numbers
+mod InSomeOrder
 mod Views
 mod Keeps

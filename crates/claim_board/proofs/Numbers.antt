@@ -7,13 +7,13 @@ use Rattle.std.proofs.lemmas.List.Elements.{All-head, All-tail}
 use Rattle.claim_board.specs.Once.{times, HasEachOnce}
 
 -- 1 where y is x, and else 0
-abbrev is_it : ℕ → ℕ → ℕ
+abbrev pub is_it : ℕ → ℕ → ℕ
 is_it x y = cond (y == x) 1 0
 
-same_is_it : (x : ℕ) → is_it x x ≡ 1
+pub same_is_it : (x : ℕ) → is_it x x ≡ 1
 same_is_it x = ap (λ (b : Bool). cond {A = ℕ} b 1 0) (eq-eqb x x refl)
 
-other_is_not : (x y : ℕ) → y ≢ x → is_it x y ≡ 0
+pub other_is_not : (x y : ℕ) → y ≢ x → is_it x y ≡ 0
 other_is_not x y apart = ap (λ (b : Bool). cond {A = ℕ} b 1 0) (ne_eqb y x apart)
 
 pub times-append : (x : ℕ) (xs ys : List ℕ) → times x (xs ++ ys) ≡ times x xs + times x ys

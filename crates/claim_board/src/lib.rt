@@ -3,6 +3,8 @@
 #![tactic(auto)]
 
 mod board;
+mod once;
 mod rule;
 
 pub use board::{Board, Seat};
+pub use once::numbers_once_stand_in_some_order;
