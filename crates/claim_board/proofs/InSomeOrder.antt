@@ -1,5 +1,5 @@
 -- Numbers that stand in a list once each are all numbers below their bound, in some order.
-use Rattle.std.proofs.Common.{◌≡◌, ℕ, zero, suc, ◌+◌, ◌<◌, ◌≤◌, List, [], ◌∷◌, ◌++◌, refl, sym, ap, subst, ◌∙◌, arith}
+use Rattle.std.proofs.Common.{◌≡◌, ℕ, zero, suc, ◌+◌, ◌≤◌, List, [], ◌∷◌, ◌++◌, refl, sym, ap, subst, ◌∙◌, arith}
 use Rattle.std.specs.List.{range_with_len}
 use Rattle.std.specs.List.Sorted.{IsPermutation}
 use mathlib.Core.Logic.{dite}
@@ -7,7 +7,7 @@ use native.Mathlib.Decide.{ℕ_discrete}
 use Rattle.std.proofs.lemmas.List.{map-id}
 use Rattle.std.proofs.lemmas.List.FromFn.{map-range_with_len_more}
 use Rattle.std.proofs.lemmas.List.Sums.{sum_by-append, sum_by-cons}
-use Rattle.std.proofs.lemmas.List.Sorted.{IsPermutation-refl, IsPermutation-append_left, IsPermutation-trans, IsPermutation-middle, IsPermutation-sym, IsPermutation-to_front, IsPermutation-cons}
+use Rattle.std.proofs.lemmas.List.Sorted.{IsPermutation-refl, IsPermutation-trans, IsPermutation-middle, IsPermutation-sym, IsPermutation-to_front, IsPermutation-cons}
 use Rattle.claim_board.specs.Once.{times, HasEachOnce, NumbersOnceStandInSomeOrder}
 use Rattle.claim_board.proofs.Numbers.{is_it, same_is_it, other_is_not}
 
@@ -22,10 +22,10 @@ parted x [] h = let nil : times x [] ≡ 0 = refl in absurd (omega (arith, h, ni
 parted x (y ∷ xs) h = dite (ℕ_discrete y x)
     (λ is. record { before = []; after = xs; whole = ap (λ z. z ∷ xs) is })
     (λ apart.
-        let e : times x (y ∷ xs) ≡ is_it x y + times x xs = sum_by-cons (is_it x) y xs in
-        let not = other_is_not x y apart in
-        let rest = parted x xs (omega (arith, h, e, not)) in
-        record { before = y ∷ rest.before; after = rest.after; whole = ap (λ l. y ∷ l) rest.whole })
+    let e : times x (y ∷ xs) ≡ is_it x y + times x xs = sum_by-cons (is_it x) y xs in
+    let not = other_is_not x y apart in
+    let rest = parted x xs (omega (arith, h, e, not)) in
+    record { before = y ∷ rest.before; after = rest.after; whole = ap (λ l. y ∷ l) rest.whole })
 
 -- how often y stands in a list with x in its midst
 times_in_midst : (y x : ℕ) (a b : List ℕ) → times y (a ++ x ∷ b) ≡ times y (a ++ b) + is_it y x

@@ -208,7 +208,7 @@ module _ (edge : Edge) (kernel : Kernel) where
   ids_in_group entries [] = refl
   ids_in_group entries (i ∷ is) = ap (λ ids. i.id ∷ ids) (ids_in_group entries is)
 
-  ids_of_rows : (groups : List GroupList) → map (λ r. r.id) (rows_in edge kernel groups) ≡ map (λ i. i.id) (bodies_in groups)
+  pub ids_of_rows : (groups : List GroupList) → map (λ r. r.id) (rows_in edge kernel groups) ≡ map (λ i. i.id) (bodies_in groups)
   ids_of_rows [] = refl
   ids_of_rows (g ∷ groups) =
       map-append (λ (r : IdRow). r.id) (map (λ i. record { id = i.id; row = force_row edge kernel g.entries i }) g.bodies) (rows_in edge kernel groups)
@@ -217,7 +217,7 @@ module _ (edge : Edge) (kernel : Kernel) where
       ∙ sym (map-append (λ (i : Particle). i.id) g.bodies (bodies_in groups))
 
   module _ (groups : List GroupList) (found : FoundSoFar) (is : IsFoundIn edge kernel groups found) where
-    no_fault_found : (o : Option Fault) → IsLeastOrNone (faults_in edge kernel groups) o → o ≡ None → faults_in edge kernel groups ≡ []
+    pub no_fault_found : (o : Option Fault) → IsLeastOrNone (faults_in edge kernel groups) o → o ≡ None → faults_in edge kernel groups ≡ []
     no_fault_found None none e = none
     no_fault_found (Some fault) least e = absurd (cc)
 
@@ -230,7 +230,7 @@ module _ (edge : Edge) (kernel : Kernel) where
         let P : List ℕ → Type 0 = IsDistinct nat_eq in
         subst P (sym (ap (map (λ (r : IdRow). r.id)) (is.rows e) ∙ ids_of_rows groups)) are.distinct
 
-    stop_found : (stop : PhaseFault) → IsLeastOf found.least stop → StopsPhase edge kernel groups stop
+    pub stop_found : (stop : PhaseFault) → IsLeastOf found.least stop → StopsPhase edge kernel groups stop
     stop_found (Numeric fault) e = let least = fault_found found.least fault is.least e in (least.among, least.below)
     stop_found Memory e = tt
 

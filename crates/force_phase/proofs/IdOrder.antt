@@ -32,10 +32,10 @@ module _ {X : Type 0} (R : List X → List X → Type 0) (same : (xs : List X) �
   swapped [] i j p q = same []
   swapped (x ∷ l) i j p q = exchanged (x ∷ l) i j x p q
 
-  along_permutation : (xs ys : List X) → IsPermutation xs ys → R xs ys
+  pub along_permutation : (xs ys : List X) → IsPermutation xs ys → R xs ys
   along_permutation xs = IsPermutation-keeps xs (R xs) (same xs) (λ l i j p q h. chain xs l _ h (swapped l i j p q))
 
-nat_eq_flips : (x y : ℕ) → nat_eq x y ≡ nat_eq y x
+pub nat_eq_flips : (x y : ℕ) → nat_eq x y ≡ nat_eq y x
 nat_eq_flips x y = grind (arith, nat_tests)
 
 -- the elements of a list by their numbers
@@ -95,7 +95,7 @@ module _ {X : Type 0} (n : X → ℕ) where
       ]
 
   -- lists of the same elements in two orders, which are one where their numbers are distinct
-  record IsAlike (xs ys : List X) : Type 0 where
+  pub record IsAlike (xs ys : List X) : Type 0 where
     pub moved : IsPermutation xs ys
     pub order : IsDistinct nat_eq (map n xs) → in_order_once before xs ≡ in_order_once before ys
 
@@ -108,7 +108,7 @@ module _ {X : Type 0} (n : X → ℕ) where
       let equal = eq-eqb (n x) (n y) e in
       absurd (cc)
 
-  alike : (xs ys : List X) → IsPermutation xs ys → IsAlike xs ys
+  pub alike : (xs ys : List X) → IsPermutation xs ys → IsAlike xs ys
   alike =
       along_permutation IsAlike
       (λ xs. record { moved = IsPermutation-refl xs; order = λ _. refl })

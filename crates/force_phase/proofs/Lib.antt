@@ -6,3 +6,6 @@ pub mod UnderWay
 pub mod RowSteps
 pub mod IdOrder
 pub mod FoundLemmas
+pub mod GroupNumbers
+pub mod TogetherLemmas
+pub mod AnyOrder

@@ -34,6 +34,15 @@ with_rows found bodies rows = record found { rows = found.rows ++ under_ids bodi
 abbrev pub with_fault : FoundSoFar → Fault → FoundSoFar
 with_fault found fault = record found { least = Some (lesser found.least fault) }
 
+-- the least of the faults of two
+abbrev pub least_of_two : Option Fault → Option Fault → Option Fault
+least_of_two least None = least
+least_of_two least (Some fault) = Some (lesser least fault)
+
+-- what some groups gave, and what others did after them
+abbrev pub of_both : FoundSoFar → FoundSoFar → FoundSoFar
+of_both found other = record { rows = found.rows ++ other.rows; least = least_of_two found.least other.least }
+
 -- rows by ascending id
 abbrev pub in_order_of_id : List IdRow → List IdRow
 in_order_of_id rows = in_order_once (λ r s. nat_lt r.id s.id) rows

@@ -8,3 +8,5 @@ pub mod Found
 pub mod Phase
 pub mod Outcome
 pub mod Finished
+pub mod Claims
+pub mod Working

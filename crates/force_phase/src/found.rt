@@ -11,8 +11,8 @@ use std::marker::Model;
 /// What the groups finished so far gave: the forces on those without a fault, and the least fault by id.
 #[derive(Drop)]
 pub(crate) struct Found {
-    rows: Vec<IdRow>,
-    least: Option<Fault>,
+    pub(crate) rows: Vec<IdRow>,
+    pub(crate) least: Option<Fault>,
 }
 
 impl Model for Found {
@@ -51,6 +51,16 @@ impl Found {
         ensures { self.new ≡ rules.with_fault self.old fault }
     {
         self.least = Some(lesser(self.least, fault));
+    }
+
+    /// Adds what other groups gave.
+    pub(crate) fn take_in(&mut self, other: Found) -> Result<(), AllocError>
+        ensures { OnOk result (self.new ≡ rules.of_both self.old other) }
+    {
+        if let Some(fault) = other.least {
+            self.add_fault(fault);
+        }
+        add_all(&mut self.rows, other.rows)
     }
 
     /// The forces by ascending id, or the least fault.

@@ -1,18 +1,22 @@
-// The forces of a step: those on the particles of all groups, by their lists. It stands on the definitions
-// of run_model, the pairs of kern_meaning and the lists of group_lists.
+// The forces of a step: those on the particles of all groups, by their lists, found by workers in threads. It stands
+// on the definitions of run_model, the pairs of kern_meaning, the lists of group_lists and the boards of claim_board.
 #![tactic(auto)]
 
 mod force;
 mod found;
 mod gathered;
 mod group_out;
+mod numbered;
 mod partner;
 mod phase;
 mod row;
 mod seen;
+mod share;
 mod tally;
 mod targets;
+mod together;
+mod worker;
 
 pub use force::{Work, work_for};
 pub use group_out::{GroupOut, Outcome, evaluate, out_for};
-pub use phase::{IdRow, PhaseFault, forces};
+pub use phase::{Claims, IdRow, PhaseFault, PhaseOut, forces};

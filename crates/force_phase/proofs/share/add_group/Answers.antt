@@ -1,7 +1,7 @@
 use Rattle.std.proofs.Common.{ap, ◌∙◌}
 use Rattle.force_phase.specs.Found.{with_rows}
 use Rattle.force_phase.proofs.FoundLemmas.{part_at, found_done, found_fault}
-use Rattle.force_phase.proofs.phase.add_group.Goals as goal
+use Rattle.force_phase.proofs.share.add_group.Goals as goal
 
 pub returns-in_ok-add_rows-in-Done-clause-found : goal.returns-in_ok-add_rows-in-Done-clause-found
 returns-in_ok-add_rows-in-Done-clause-found c = λ g before is now.
