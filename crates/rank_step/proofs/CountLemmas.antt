@@ -1,13 +1,16 @@
 -- The entries of lists, counted list by list.
-use Rattle.std.proofs.Common.{◌≡◌, ℕ, ◌+◌, ◌<◌, Bool, cond, List, [], ◌∷◌, ◌++◌, length, get_or, map, take, Some, slice_get, option_map, refl, sym, ◌∙◌, ap}
+use Rattle.std.proofs.Common.{◌≡◌, ℕ, ◌+◌, ◌<◌, Bool, cond, List, [], ◌∷◌, ◌++◌, length, get_or, map, flat_map, take, Some, slice_get, option_map, refl, sym, ◌∙◌, ap, arith}
 use Rattle.std.specs.List.{count_by}
-use Rattle.std.proofs.lemmas.List.{take_more, append-nil, get_or_default}
+use Rattle.std.proofs.lemmas.List.{take_more, append-nil, get_or_default, length-append}
 use Rattle.std.proofs.lemmas.List.Concat.{flat_map-append}
-use Rattle.std.proofs.lemmas.List.Sums.{sum_by-append}
+use Rattle.std.proofs.lemmas.List.Sums.{sum_by-append, sum_by-cons}
 use Rattle.std.proofs.lemmas.Option.{slice_get-map, slice_get_read}
 use Rattle.pf_model.specs.declared.entry.Entry.{Entry}
 use Rattle.group_lists.specs.Whole.{GroupList}
+use Rattle.run_model.specs.declared.step_text.RankLine.{RankLine}
+use Rattle.rank_step.specs.declared.rank_lists.RankLists.{RankLists}
 use Rattle.rank_step.specs.Build.{all_entries}
+use Rattle.rank_step.specs.Told.{groups_told}
 
 abbrev entries_of : GroupList → List Entry
 entries_of l = l.entries
@@ -37,3 +40,15 @@ pub counted_more : (test : Entry → Bool) (lists : List GroupList) (n : ℕ) (e
 counted_more test lists n entries count more within got counted here =
     let split = sum_by-append (λ (e : Entry). cond (test e) 1 0) (all_entries (take n lists)) entries in
     (λ k. counted k + here k) ∙ sym (ap (count_by test) (entries_more lists n entries within got) ∙ split)
+
+-- the lines of ranks tell how many groups they have
+pub groups_counted : (built : List RankLists) → groups_told (map (λ r. r.line) built) ≡ length (flat_map (λ r. r.lists) built)
+groups_counted [] = refl
+groups_counted (r ∷ built) =
+    let lines : List RankLine = map (λ (b : RankLists). b.line) built in
+    let all : List GroupList = flat_map (λ (b : RankLists). b.lists) built in
+    let split : groups_told (r.line ∷ lines) ≡ r.line.groups + groups_told lines = sum_by-cons (λ (l : RankLine). l.groups) r.line lines in
+    let joined : length (r.lists ++ all) ≡ length r.lists + length all = length-append r.lists all in
+    let rest : groups_told lines ≡ length all = groups_counted built in
+    let own : r.line.groups ≡ length r.lists = r.told in
+    omega (arith, split, joined, rest, own)

@@ -1,5 +1,5 @@
 -- What a step tells.
-use Rattle.std.specs.Prelude.{◌≡◌, ℕ, List, map, All, Some, None}
+use Rattle.std.specs.Prelude.{◌≡◌, ℕ, List, map, sum_by, All, Some, None}
 use Rattle.pf_model.specs.Domains.{Multisection, owner_by}
 use Rattle.pf_model.specs.Particle.{Particle}
 use Rattle.run_model.specs.declared.step_text.BodyLine.{BodyLine}
@@ -25,6 +25,10 @@ row_with s b = record {
 -- what a step tells of ranks and these particles
 abbrev pub text_with : ℕ → List RankLine → Multisection → List WithForces → StepText
 text_with s counts cuts bodies = record { step = s; ranks = counts; rows = map (row_with cuts) bodies }
+
+-- how many groups these ranks have together
+abbrev pub groups_told : List RankLine → ℕ
+groups_told lines = sum_by (λ line. line.groups) lines
 
 -- the step has no fault, and its state has these particles, which are where they were at a build of its own, of which
 -- these are the counts, the domains and the ranks

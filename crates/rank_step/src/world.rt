@@ -5,7 +5,8 @@ ghost use Rattle.run_model.specs.Setup.{Setup};
 ghost use Rattle.rank_step.specs.World.{IsSound, StandsFor, Steps};
 ghost use Rattle.rank_step.specs.Ranks.{HaveTogether};
 ghost use Rattle.rank_step.specs.Taken.{Takes, TakesBy, taking_fault, without_forces};
-ghost use Rattle.rank_step.specs.Told.{Reaches};
+ghost use Rattle.force_phase.specs.Claims.{HaveAllGroups};
+ghost use Rattle.rank_step.specs.Told.{Reaches, groups_told};
 ghost use Rattle.rank_step.specs.Answers.{StopsAt, StopsBy};
 
 use crate::fault::StepFault;
@@ -17,6 +18,7 @@ use crate::motion::Motion;
 use crate::moves::{kick_again, moved};
 use crate::told::told;
 use exchange::RankState;
+use force_phase::Claims;
 use kern_types::Typed;
 use pf_io::Gate;
 use pf_model::{Body, Grid, MOST_GROUP, Theta, distinct_ids_ignore_order, orders_by_id_are_one};
@@ -45,6 +47,8 @@ pub struct WorldSetup {
 #[derive(Drop)]
 pub struct StepReport {
     pub text: StepText,
+    /// The groups whose forces each worker found. They are numbered over the ranks.
+    pub claims: Vec<Claims>,
 }
 
 /// All particles of a run, and the ranks that have them, before its next step.
@@ -121,78 +125,119 @@ impl World {
     }
 
     /// The next step, from 0: the world after it, and what it tells. `Numeric` and `Lists` exactly where
-    /// that is its first fault. After a refusal the world is gone. The workers and the gate serve none of it yet.
+    /// that is its first fault. After a refusal the world is gone. For now the workers serve the forces alone: there
+    /// each passes the gate, then claims groups.
     pub fn step<R: Threads + Sync, G: Gate>(
         self,
         rt: &R,
         alloc: Global,
-        _workers: u32,
-        _gate: &G,
+        workers: u32,
+        gate: &G,
     ) -> Result<(World, StepReport), StepFault>
-        requires { self.due < 2 ^ 31 }
+        requires due { self.due < 2 ^ 31 }
+        requires some_workers { 1 ≤ workers }
+        requires most_workers { workers ≤ 64 }
         ensures ok { IfOk result (λ r. (u : Setup) → StandsFor self u → Steps u self.due r.0 r.1.text) }
+        ensures claims { IfOk result (λ r.
+            HaveAllGroups workers (groups_told r.1.text.ranks) r.1.claims.items) }
         ensures fault { IfErr result (λ f. (u : Setup) → StandsFor self u → StopsBy u self.due f) }
     {
-        let taken = self.taken(rt, alloc)?;
+        let taken = self.taken(rt, alloc, workers, gate)?;
         self.after(alloc, taken)
     }
 
     // The particles after the next step, with the forces on them.
-    fn taken<R: Threads + Sync>(&self, rt: &R, alloc: Global) -> Result<Taken, StepFault>
+    fn taken<R: Threads + Sync, G: Gate>(
+        &self,
+        rt: &R,
+        alloc: Global,
+        workers: u32,
+        gate: &G,
+    ) -> Result<Taken, StepFault>
+        requires some_workers { 1 ≤ workers }
+        requires most_workers { workers ≤ 64 }
         ensures sound { IfOk result (λ taken.
             IsSound self.now.grid self.now.group taken.bodies.items taken.ranks.items) }
         ensures ok { (u : Setup) → StandsFor self.now u → IfOk result (λ taken.
             Reaches u self.now.due taken.bodies.items taken.counts.items taken.domains taken.ranks.items) }
+        ensures claims { IfOk result (λ taken.
+            HaveAllGroups workers (groups_told taken.counts.items) taken.claims.items) }
         ensures fault { (u : Setup) → StandsFor self.now u → IfErr result (StopsBy u self.now.due) }
     {
         if self.due == 0 {
-            self.first(rt, alloc)
+            self.first(rt, alloc, workers, gate)
         } else {
-            self.next(rt, alloc)
+            self.next(rt, alloc, workers, gate)
         }
     }
 
     // Step 0: a build, and the forces.
-    fn first<R: Threads + Sync>(&self, rt: &R, alloc: Global) -> Result<Taken, StepFault>
-        requires { self.now.due ≡ 0 }
+    fn first<R: Threads + Sync, G: Gate>(
+        &self,
+        rt: &R,
+        alloc: Global,
+        workers: u32,
+        gate: &G,
+    ) -> Result<Taken, StepFault>
+        requires due { self.now.due ≡ 0 }
+        requires some_workers { 1 ≤ workers }
+        requires most_workers { workers ≤ 64 }
         ensures sound { IfOk result (λ taken.
             IsSound self.now.grid self.now.group taken.bodies.items taken.ranks.items) }
         ensures ok { (u : Setup) → StandsFor self.now u → IfOk result (λ taken.
             Reaches u 0 taken.bodies.items taken.counts.items taken.domains taken.ranks.items) }
+        ensures claims { IfOk result (λ taken.
+            HaveAllGroups workers (groups_told taken.counts.items) taken.claims.items) }
         ensures fault { (u : Setup) → StandsFor self.now u → IfErr result (StopsBy u 0) }
     {
         let read = bodies_of(alloc, &self.bodies)?;
-        self.build(rt, alloc, &read)
+        self.build(rt, alloc, workers, gate, &read)
     }
 
     // A step past 0: half a kick, a drift, a build, the forces, and half a kick.
-    fn next<R: Threads + Sync>(&self, rt: &R, alloc: Global) -> Result<Taken, StepFault>
-        requires { 1 ≤ self.now.due }
+    fn next<R: Threads + Sync, G: Gate>(
+        &self,
+        rt: &R,
+        alloc: Global,
+        workers: u32,
+        gate: &G,
+    ) -> Result<Taken, StepFault>
+        requires due { 1 ≤ self.now.due }
+        requires some_workers { 1 ≤ workers }
+        requires most_workers { workers ≤ 64 }
         ensures sound { IfOk result (λ taken.
             IsSound self.now.grid self.now.group taken.bodies.items taken.ranks.items) }
         ensures ok { (u : Setup) → StandsFor self.now u → IfOk result (λ taken.
             Reaches u self.now.due taken.bodies.items taken.counts.items taken.domains taken.ranks.items) }
+        ensures claims { IfOk result (λ taken.
+            HaveAllGroups workers (groups_told taken.counts.items) taken.claims.items) }
         ensures fault { (u : Setup) → StandsFor self.now u → IfErr result (StopsBy u self.now.due) }
     {
         let motion = Motion::of(&self.kernel, self.theta, self.dt);
         let now = moved(alloc, motion, &self.bodies)?;
-        let mut taken = self.build(rt, alloc, &now)?;
+        let mut taken = self.build(rt, alloc, workers, gate, &now)?;
         kick_again(motion, &mut taken.bodies)?;
         Ok(taken)
     }
 
     // A build on the particles where they are now, and the forces on them.
-    fn build<R: Threads + Sync>(
+    fn build<R: Threads + Sync, G: Gate>(
         &self,
         rt: &R,
         alloc: Global,
+        workers: u32,
+        gate: &G,
         now: &[Body],
     ) -> Result<Taken, StepFault>
+        requires some_workers { 1 ≤ workers }
+        requires most_workers { workers ≤ 64 }
         requires same { map (λ p. p.id) now.now ≡ map (λ b. b.body.id) self.now.bodies }
         ensures taken { (u : Setup) → TakesBy self.now.kernel self.now.grid self.now.theta self.now.group u
             → IfOk result (λ taken.
             Takes u now.now taken.bodies.items taken.counts.items taken.domains taken.ranks.items) }
         ensures together { IfOk result (λ taken. HaveTogether self.now.grid now.now taken.ranks.items) }
+        ensures claims { IfOk result (λ taken.
+            HaveAllGroups workers (groups_told taken.counts.items) taken.claims.items) }
         ensures fault { (u : Setup) → TakesBy self.now.kernel self.now.grid self.now.theta self.now.group u
             → IfErr result (StopsAt (taking_fault u now.now)) }
     {
@@ -200,6 +245,8 @@ impl World {
         build_and_take(
             rt,
             alloc,
+            workers,
+            gate,
             &self.kernel,
             self.grid,
             self.theta,
@@ -216,6 +263,8 @@ impl World {
         ensures ok { IfOk result (λ r. (u : Setup) → StandsFor self u
             → Reaches u self.due taken.bodies.items taken.counts.items taken.domains taken.ranks.items
             → Steps u self.due r.0 r.1.text) }
+        ensures claims { (workers : ℕ) → HaveAllGroups workers (groups_told taken.counts.items) taken.claims.items
+            → IfOk result (λ r. HaveAllGroups workers (groups_told r.1.text.ranks) r.1.claims.items) }
         ensures fault { IfErr result (λ f. f ≡ StepFault.Memory) }
     {
         let text = told(alloc, self.due, taken.counts, &taken.domains, &taken.bodies)?;
@@ -229,7 +278,11 @@ impl World {
             bodies: taken.bodies,
             ranks: taken.ranks,
         };
-        Ok((after, StepReport { text }))
+        let report = StepReport {
+            text,
+            claims: taken.claims,
+        };
+        Ok((after, report))
     }
 }
 

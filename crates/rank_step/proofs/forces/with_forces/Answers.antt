@@ -7,19 +7,19 @@ use Rattle.rank_step.proofs.ForceLemmas.{TakesFrom_forces, TakesFrom_no_fault, T
 use Rattle.rank_step.proofs.forces.with_forces.Goals as goal
 
 pub returns-clause-forces : goal.returns-clause-forces
-returns-clause-forces c u takes =
-    c.in_ok-paired.ensures
-    ∙ TakesFrom_forces c.orders_by_id_are_one.ensures u c.args.t.now c.args.edge c.args.now.now (flat_map (λ (r : RankLists). r.lists) c.args.built.now) takes (ascend c.args.now.now c.requires.ascending) c.in_ok-rows.rows.items
-    c.in_ok-rows.ensures.rows
+returns-clause-forces g c u takes =
+    c.in_ok-bodies.ensures
+    ∙ TakesFrom_forces c.orders_by_id_are_one.ensures u c.args.t.now c.args.edge c.args.now.now (flat_map (λ (r : RankLists). r.lists) c.args.built.now) takes (ascend c.args.now.now c.requires.ascending) c.in_ok-out.out.rows.items
+    c.in_ok-out.ensures.rows
 
 pub returns-clause-no_fault : goal.returns-clause-no_fault
-returns-clause-no_fault c u takes =
+returns-clause-no_fault g c u takes =
     TakesFrom_no_fault c.orders_by_id_are_one.ensures u c.args.t.now c.args.edge c.args.now.now (flat_map (λ (r : RankLists). r.lists) c.args.built.now) takes (ascend c.args.now.now c.requires.ascending)
-    c.in_ok-rows.ensures.no_fault
+    c.in_ok-out.ensures.no_fault
 
-pub returns-in_err-rows-clause-fault : goal.returns-in_err-rows-clause-fault
-returns-in_err-rows-clause-fault c u takes =
+pub returns-in_err-out-clause-fault : goal.returns-in_err-out-clause-fault
+returns-in_err-out-clause-fault g c u takes =
     let p = err_from_is_err_and c.from_residual.result c.from_residual.ensures.1 in
     rw (p.1, p.2)
-    (TakesFrom_fault c.orders_by_id_are_one.ensures u c.args.t.now c.args.edge c.args.now.now (flat_map (λ (r : RankLists). r.lists) c.args.built.now) takes (ascend c.args.now.now c.requires.ascending) c.in_err-rows.field-0.0
-    c.in_err-rows.ensures.fault)
+    (TakesFrom_fault c.orders_by_id_are_one.ensures u c.args.t.now c.args.edge c.args.now.now (flat_map (λ (r : RankLists). r.lists) c.args.built.now) takes (ascend c.args.now.now c.requires.ascending) c.in_err-out.field-0.0
+    c.in_err-out.ensures.fault)

@@ -32,11 +32,11 @@ returns-clause-ok g c u stands =
     let read = read_from _ _ _ _ c.deref-2.ensures.value c.in_ok-read.ensures c.deref.ensures.value ∙ ap (λ (v : Standing). map (λ b. b.body) v.bodies) c.self.view_is in
     let up = ascend now (ids_ascend _ _ (sound_of _ w c.self.view_is c.self.invariant).standing now (map_body_ids w.bodies now read)) in
     IfOk-weaker c.build.result (λ (taken : Taken). Takes u now taken.bodies.items taken.counts.items taken.domains taken.ranks.items) (λ (taken : Taken). Reaches u 0 taken.bodies.items taken.counts.items taken.domains taken.ranks.items)
-    (λ taken takes. first_reaches w u stands c.requires now read up _ _ _ _ takes) (c.build.ensures.taken u (takes_by w u stands))
+    (λ taken takes. first_reaches w u stands c.requires.due now read up _ _ _ _ takes) (c.build.ensures.taken u (takes_by w u stands))
 
 pub returns-clause-fault : goal.returns-clause-fault
 returns-clause-fault g c u stands =
     let w = c.args.self.now in
     let now = c.deref-2.result.now in
     let read = read_from _ _ _ _ c.deref-2.ensures.value c.in_ok-read.ensures c.deref.ensures.value ∙ ap (λ (v : Standing). map (λ b. b.body) v.bodies) c.self.view_is in
-    IfErr-weaker c.build.result (StopsAt (taking_fault u now)) (StopsBy u 0) (λ fault h. first_stops w u stands c.requires now read fault h) (c.build.ensures.fault u (takes_by w u stands))
+    IfErr-weaker c.build.result (StopsAt (taking_fault u now)) (StopsBy u 0) (λ fault h. first_stops w u stands c.requires.due now read fault h) (c.build.ensures.fault u (takes_by w u stands))

@@ -22,7 +22,7 @@ returns-in_err-now-clause-fault g c u stands =
     let moves = steps.moves_by c.of-motion.result _ _ _ c.of-motion.ensures.place c.of-motion.ensures.edge c.of-motion.ensures.dt u here.kernel here.theta here.dt in
     let bodies = c.deref.ensures.value ∙ ap (λ (w : Standing). w.bodies) c.self.view_is in
     rw (p.1, p.2)
-    (steps.move_stops u c.args.self.now.due c.args.self.now.bodies stands.rebuilt c.requires stands.before c.in_err-now.field-0.0
+    (steps.move_stops u c.args.self.now.due c.args.self.now.bodies stands.rebuilt c.requires.due stands.before c.in_err-now.field-0.0
     (steps.same_stops _ _ c.in_err-now.field-0.0 (ap (first_given (move_fault u)) bodies) (c.in_err-now.ensures.fault u moves)))
 
 pub returns-in_err-taken-clause-fault : goal.returns-in_err-taken-clause-fault
@@ -34,7 +34,7 @@ returns-in_err-taken-clause-fault g c u stands =
     let moved = steps.moved_from u _ _ _ _ c.deref-2.ensures.value (c.in_ok-now.ensures.moved u moves) bodies in
     let no_fault = ap (first_given (move_fault u)) (sym bodies) ∙ c.in_ok-now.ensures.no_fault u moves in
     rw (p.1, p.2)
-    (steps.taking_stops u c.args.self.now.due c.args.self.now.bodies stands.rebuilt c.requires stands.before c.deref-2.result.now moved no_fault c.in_err-taken.field-0.0
+    (steps.taking_stops u c.args.self.now.due c.args.self.now.bodies stands.rebuilt c.requires.due stands.before c.deref-2.result.now moved no_fault c.in_err-taken.field-0.0
     (c.in_err-taken.ensures.fault u (steps.takes_by c.args.self.now u stands)))
 
 pub returns-in_err-kick_again-clause-fault : goal.returns-in_err-kick_again-clause-fault
@@ -47,7 +47,7 @@ returns-in_err-kick_again-clause-fault g c u stands =
     let no_fault = ap (first_given (move_fault u)) (sym bodies) ∙ c.in_ok-now.ensures.no_fault u moves in
     let takes = c.in_ok-taken.ensures.taken u (steps.takes_by c.args.self.now u stands) in
     rw (p.1, p.2)
-    (steps.kick_stops u c.args.self.now.due c.args.self.now.bodies stands.rebuilt c.requires stands.before c.deref-2.result.now moved no_fault takes.no_fault (Numeric c.in_err-kick_again.field-0.0)
+    (steps.kick_stops u c.args.self.now.due c.args.self.now.bodies stands.rebuilt c.requires.due stands.before c.deref-2.result.now moved no_fault takes.no_fault (Numeric c.in_err-kick_again.field-0.0)
     (ap (first_given (kick_fault u)) (sym (c.deref_mut.ensures.value ∙ takes.forces)) ∙ c.in_err-kick_again.ensures.fault u moves))
 
 pub returns-clause-sound : goal.returns-clause-sound
@@ -73,6 +73,6 @@ returns-clause-ok g c u stands =
     let takes = c.in_ok-taken.ensures.taken u (steps.takes_by c.args.self.now u stands) in
     let forces = c.deref_mut.ensures.value ∙ takes.forces in
     let up = ascend c.deref-2.result.now (steps.ids_ascend _ _ c.self.invariant.standing c.deref-2.result.now (steps.map_moved_ids u _ _ own)) in
-    steps.next_reaches u c.args.self.now.due c.args.self.now.bodies stands.rebuilt c.requires stands.before c.deref-2.result.now moved no_fault takes.no_fault _ _ _ _
+    steps.next_reaches u c.args.self.now.due c.args.self.now.bodies stands.rebuilt c.requires.due stands.before c.deref-2.result.now moved no_fault takes.no_fault _ _ _ _
     (ap (first_given (kick_fault u)) (sym forces) ∙ c.in_ok-kick_again.ensures.no_fault u moves) up
     (steps.written _ _ _ (omega arith) ∙ c.in_ok-kick_again.ensures.kicked u moves ∙ ap (map (kicked_again u)) forces) takes.counts takes.domains takes.owners
