@@ -9,9 +9,11 @@ use Rattle.kern_tree.specs.declared.stmt.Act.TheOpen.{Act-F, Stmt-F}
 use Rattle.kern_tree.specs.declared.stmt.Act.TheOpen as acts
 use Rattle.kern_tree.specs.declared.stmt.Stmt.{Stmt}
 use Rattle.kern_meaning.specs.declared.stop.PairStop.{PairStop}
+use Rattle.kern_meaning.specs.declared.stop.Stop.{Stop}
 use Rattle.kern_meaning.specs.declared.value.Value.{Value}
 use Rattle.kern_meaning.specs.Names.{Known}
 use Rattle.kern_meaning.specs.Pair.{PairState, Statements}
+use Rattle.kern_meaning.specs.Stops.{OrStop}
 
 -- ---- numbers of names
 
@@ -49,6 +51,10 @@ value_or start (Some value) = value
 -- the values of names: by number where they have one, else those at the start of the pair
 abbrev pub known_by : Known → List (List ℕ) → List (Option Value) → Known
 known_by start names values name = value_or (start name) (slice_get values (number_of names name))
+
+-- The call's answer to an expression of this meaning: the value that it wrote, or what stopped it.
+abbrev pub Gives : Result (Unit {0}) Stop → OrStop Value → Value → Type 0
+Gives result meaning value = MatchResult result (λ _. meaning ≡ Ok value) (λ stop. meaning ≡ Err stop)
 
 -- ---- statements
 

@@ -4,7 +4,7 @@ ghost use Rattle.kern_meaning.specs.Expressions as meanings;
 ghost use Rattle.kern_meaning.specs.Links.{counted, links_of, value_by};
 ghost use Rattle.kern_meaning.specs.Names.{known_at_start, name_value as valued};
 ghost use Rattle.kern_meaning.specs.Operators as rules;
-ghost use Rattle.kern_meaning.specs.Walks.{known_by};
+ghost use Rattle.kern_meaning.specs.Walks.{Gives, known_by};
 
 use crate::link::{Link, split};
 use crate::operators::{
@@ -17,30 +17,34 @@ use kern_tree::{Expr, Form, Kind, Op1, Op2, Op3};
 use kern_types::ExprType;
 use pf_geom::Axis;
 
-// Each form has a function of its own, which is not inlined: a call pays for the room of all the results that it may
-// need, and most nodes need one or two.
+// A value is as long as three numbers, so it is written where it is wanted. Each form has a function of its own, which
+// isn't inlined: a call pays for the room of all the values that it may need, and most nodes need one or two.
 
-/// The value of an expression, where the names that are assigned have these values, by number.
+/// Writes the value of an expression, where the names that are assigned have these values, by number.
 #[cycle(expressions)]
-pub(crate) fn value_of(
+fn value_of(
     expr: &Expr,
     links: &[Link],
     walk: &Walk,
     values: &[Option<Value>],
-) -> Result<Value, Stop>
+    value: &mut Value,
+) -> Result<(), Stop>
     requires links { links.now ≡ links_of walk.now.names.now walk.now.decls.now expr.now }
     requires same { length values.now ≡ length walk.now.names.now }
-    ensures { result ≡ meanings.value_of (known_by
-        (known_at_start walk.now.decls.now walk.now.i.now walk.now.j.now) walk.now.names.now values.now) expr.now }
+    ensures { Gives result (meanings.value_of (known_by
+        (known_at_start walk.now.decls.now walk.now.i.now walk.now.j.now) walk.now.names.now values.now) expr.now)
+        value.new }
 {
     match &expr.form {
-        Form::Number(mantissa, scale) => literal_value(*mantissa, *scale),
-        Form::Name(_) => read(walk, values, links),
-        Form::Part(a, axis) => part_of(*axis, a.get(), links, walk, values),
-        Form::One(op, a) => one_of(*op, a.get(), links, walk, values),
-        Form::Two(op, a, b) => two_of(*op, a.get(), b.get(), links, walk, values),
-        Form::Three(op, a, b, c) => three_of(*op, a.get(), b.get(), c.get(), links, walk, values),
-        Form::To(scale, a) => to_of(*scale, a.get(), links, walk, values),
+        Form::Number(mantissa, scale) => store(literal_value(*mantissa, *scale), value),
+        Form::Name(_) => read(walk, values, links, value),
+        Form::Part(a, axis) => part_of(*axis, a.get(), links, walk, values, value),
+        Form::One(op, a) => one_of(*op, a.get(), links, walk, values, value),
+        Form::Two(op, a, b) => two_of(*op, a.get(), b.get(), links, walk, values, value),
+        Form::Three(op, a, b, c) => {
+            three_of(*op, a.get(), b.get(), c.get(), links, walk, values, value)
+        }
+        Form::To(scale, a) => to_of(*scale, a.get(), links, walk, values, value),
     }
 }
 
@@ -52,15 +56,17 @@ fn part_of(
     links: &[Link],
     walk: &Walk,
     values: &[Option<Value>],
-) -> Result<Value, Stop>
+    value: &mut Value,
+) -> Result<(), Stop>
     requires links { links.now ≡ links_of walk.now.names.now walk.now.decls.now a.now }
     requires same { length values.now ≡ length walk.now.names.now }
-    ensures { result ≡ meanings.form_meaning (known_by
+    ensures { Gives result (meanings.form_meaning (known_by
         (known_at_start walk.now.decls.now walk.now.i.now walk.now.j.now) walk.now.names.now values.now)
         (layers.Part (meanings.value_of (known_by
-        (known_at_start walk.now.decls.now walk.now.i.now walk.now.j.now) walk.now.names.now values.now) a.now) axis) }
+        (known_at_start walk.now.decls.now walk.now.i.now walk.now.j.now) walk.now.names.now values.now) a.now) axis)) value.new }
 {
-    part_value(axis, value_of(a, links, walk, values)?)
+    value_of(a, links, walk, values, value)?;
+    store(part_value(axis, *value), value)
 }
 
 #[inline(never)]
@@ -71,15 +77,17 @@ fn one_of(
     links: &[Link],
     walk: &Walk,
     values: &[Option<Value>],
-) -> Result<Value, Stop>
+    value: &mut Value,
+) -> Result<(), Stop>
     requires links { links.now ≡ links_of walk.now.names.now walk.now.decls.now a.now }
     requires same { length values.now ≡ length walk.now.names.now }
-    ensures { result ≡ meanings.form_meaning (known_by
+    ensures { Gives result (meanings.form_meaning (known_by
         (known_at_start walk.now.decls.now walk.now.i.now walk.now.j.now) walk.now.names.now values.now)
         (layers.One op (meanings.value_of (known_by
-        (known_at_start walk.now.decls.now walk.now.i.now walk.now.j.now) walk.now.names.now values.now) a.now)) }
+        (known_at_start walk.now.decls.now walk.now.i.now walk.now.j.now) walk.now.names.now values.now) a.now))) value.new }
 {
-    one_value(op, value_of(a, links, walk, values)?)
+    value_of(a, links, walk, values, value)?;
+    store(one_value(op, *value), value)
 }
 
 #[inline(never)]
@@ -90,15 +98,17 @@ fn to_of(
     links: &[Link],
     walk: &Walk,
     values: &[Option<Value>],
-) -> Result<Value, Stop>
+    value: &mut Value,
+) -> Result<(), Stop>
     requires links { links.now ≡ links_of walk.now.names.now walk.now.decls.now a.now }
     requires same { length values.now ≡ length walk.now.names.now }
-    ensures { result ≡ meanings.form_meaning (known_by
+    ensures { Gives result (meanings.form_meaning (known_by
         (known_at_start walk.now.decls.now walk.now.i.now walk.now.j.now) walk.now.names.now values.now)
         (layers.To scale (meanings.value_of (known_by
-        (known_at_start walk.now.decls.now walk.now.i.now walk.now.j.now) walk.now.names.now values.now) a.now)) }
+        (known_at_start walk.now.decls.now walk.now.i.now walk.now.j.now) walk.now.names.now values.now) a.now))) value.new }
 {
-    to_value(scale, value_of(a, links, walk, values)?)
+    value_of(a, links, walk, values, value)?;
+    store(to_value(scale, *value), value)
 }
 
 #[inline(never)]
@@ -110,27 +120,33 @@ fn two_of(
     links: &[Link],
     walk: &Walk,
     values: &[Option<Value>],
-) -> Result<Value, Stop>
+    value: &mut Value,
+) -> Result<(), Stop>
     requires links { links.now ≡ counted (links_of walk.now.names.now walk.now.decls.now a.now)
         ++ links_of walk.now.names.now walk.now.decls.now b.now }
     requires same { length values.now ≡ length walk.now.names.now }
-    ensures { result ≡ meanings.form_meaning (known_by
+    ensures { Gives result (meanings.form_meaning (known_by
         (known_at_start walk.now.decls.now walk.now.i.now walk.now.j.now) walk.now.names.now values.now)
         (layers.Two op (meanings.value_of (known_by
         (known_at_start walk.now.decls.now walk.now.i.now walk.now.j.now) walk.now.names.now values.now) a.now)
         (meanings.value_of (known_by
-        (known_at_start walk.now.decls.now walk.now.i.now walk.now.j.now) walk.now.names.now values.now) b.now)) }
+        (known_at_start walk.now.decls.now walk.now.i.now walk.now.j.now) walk.now.names.now values.now) b.now))) value.new }
 {
     let parts = split(links);
-    let first = value_of(a, parts.0, walk, values)?;
+    value_of(a, parts.0, walk, values, value)?;
     match op {
-        Op2::And if !truth(first)? => Ok(Value::Condition(false)),
-        Op2::Or if truth(first)? => Ok(Value::Condition(true)),
+        Op2::And if !truth(*value)? => store(Ok(Value::Condition(false)), value),
+        Op2::Or if truth(*value)? => store(Ok(Value::Condition(true)), value),
         Op2::And | Op2::Or => {
-            let second = truth(value_of(b, parts.1, walk, values)?)?;
-            Ok(Value::Condition(second))
+            value_of(b, parts.1, walk, values, value)?;
+            let holds = truth(*value)?;
+            store(Ok(Value::Condition(holds)), value)
         }
-        _ => two_value(op, first, value_of(b, parts.1, walk, values)?),
+        _ => {
+            let mut second = Value::Condition(false);
+            value_of(b, parts.1, walk, values, &mut second)?;
+            store(two_value(op, *value, second), value)
+        }
     }
 }
 
@@ -144,42 +160,68 @@ fn three_of(
     links: &[Link],
     walk: &Walk,
     values: &[Option<Value>],
-) -> Result<Value, Stop>
+    value: &mut Value,
+) -> Result<(), Stop>
     requires links { links.now ≡ counted (links_of walk.now.names.now walk.now.decls.now a.now)
         ++ (counted (links_of walk.now.names.now walk.now.decls.now b.now)
         ++ links_of walk.now.names.now walk.now.decls.now c.now) }
     requires same { length values.now ≡ length walk.now.names.now }
-    ensures { result ≡ meanings.form_meaning (known_by
+    ensures { Gives result (meanings.form_meaning (known_by
         (known_at_start walk.now.decls.now walk.now.i.now walk.now.j.now) walk.now.names.now values.now)
         (layers.Three op (meanings.value_of (known_by
         (known_at_start walk.now.decls.now walk.now.i.now walk.now.j.now) walk.now.names.now values.now) a.now)
         (meanings.value_of (known_by
         (known_at_start walk.now.decls.now walk.now.i.now walk.now.j.now) walk.now.names.now values.now) b.now)
         (meanings.value_of (known_by
-        (known_at_start walk.now.decls.now walk.now.i.now walk.now.j.now) walk.now.names.now values.now) c.now)) }
+        (known_at_start walk.now.decls.now walk.now.i.now walk.now.j.now) walk.now.names.now values.now) c.now))) value.new }
 {
     let parts = split(links);
-    let first = value_of(a, parts.0, walk, values)?;
+    value_of(a, parts.0, walk, values, value)?;
     let later = split(parts.1);
-    let second = value_of(b, later.0, walk, values)?;
-    let third = value_of(c, later.1, walk, values)?;
-    three_value(op, first, second, third)
+    let mut second = Value::Condition(false);
+    value_of(b, later.0, walk, values, &mut second)?;
+    let mut third = Value::Condition(false);
+    value_of(c, later.1, walk, values, &mut third)?;
+    store(three_value(op, *value, second, third), value)
 }
 
-// The value of the name that stands first.
+// Writes the value of the name that stands first.
 #[inline(never)]
-fn read(walk: &Walk, values: &[Option<Value>], links: &[Link]) -> Result<Value, Stop>
-    ensures { result ≡ valued (value_by walk.now.i.now walk.now.j.now values.now links.now) }
+fn read(
+    walk: &Walk,
+    values: &[Option<Value>],
+    links: &[Link],
+    value: &mut Value,
+) -> Result<(), Stop>
+    ensures { Gives result (valued (value_by walk.now.i.now walk.now.j.now values.now links.now)) value.new }
 {
     match links.first() {
         Some(Link::Assigned(number)) => match values.get(*number) {
-            Some(Some(value)) => Ok(*value),
+            Some(Some(known)) => {
+                *value = *known;
+                Ok(())
+            }
             _ => Err(Stop::NoResult),
         },
         Some(Link::Declared(variable)) => {
-            variable_value(*variable, walk.i, walk.j).ok_or(Stop::NoResult)
+            store(
+                variable_value(*variable, walk.i, walk.j).ok_or(Stop::NoResult),
+                value,
+            )
         }
         _ => Err(Stop::NoResult),
+    }
+}
+
+fn store(answer: Result<Value, Stop>, value: &mut Value) -> Result<(), Stop>
+    ensures { Gives result answer value.new }
+{
+    match answer {
+        Ok(written) => {
+            *value = written;
+            Ok(())
+        }
+        Err(stop) => Err(stop),
     }
 }
 
@@ -195,7 +237,9 @@ pub(crate) fn number_value_of(
     ensures { result ≡ meanings.number_value_of (known_by
         (known_at_start walk.now.decls.now walk.now.i.now walk.now.j.now) walk.now.names.now values.now) expr.now }
 {
-    number(value_of(expr, links, walk, values)?)
+    let mut value = Value::Condition(false);
+    value_of(expr, links, walk, values, &mut value)?;
+    number(value)
 }
 
 /// Whether a condition holds.
@@ -210,7 +254,9 @@ pub(crate) fn truth_of(
     ensures { result ≡ meanings.truth_of (known_by
         (known_at_start walk.now.decls.now walk.now.i.now walk.now.j.now) walk.now.names.now values.now) expr.now }
 {
-    truth(value_of(expr, links, walk, values)?)
+    let mut value = Value::Condition(false);
+    value_of(expr, links, walk, values, &mut value)?;
+    truth(value)
 }
 
 /// The value of an expression, which a FORCE variable of this type takes.
@@ -227,7 +273,9 @@ pub(crate) fn contribution_of(
         (known_at_start walk.now.decls.now walk.now.i.now walk.now.j.now) walk.now.names.now values.now) force
         expr.now }
 {
-    taken_by(force, value_of(expr, links, walk, values)?)
+    let mut value = Value::Condition(false);
+    value_of(expr, links, walk, values, &mut value)?;
+    taken_by(force, value)
 }
 
 fn taken_by(force: Option<ExprType>, value: Value) -> Result<Value, Stop>
