@@ -7,3 +7,4 @@ mod moves;
 mod program;
 mod ranks;
 mod words;
+mod workers;

@@ -1,7 +1,8 @@
 // Runs on several ranks, as their dumps show them.
 
-use super::kernels::{GRAVITY, OVER_OWN_MASS, PULL};
-use super::program::{Inputs, stops, writes};
+use super::kernels::{GRAVITY, PULL};
+use super::program::{Inputs, writes};
+use std::fmt::Write;
 use std::test::Fail;
 
 #[test]
@@ -110,16 +111,25 @@ fn the_grid_changes_owners_and_counts_alone(rt: HostRuntime) -> Result<(), Fail>
 }
 
 #[test]
-fn the_least_id_with_a_fault_is_named_whatever_its_rank(rt: HostRuntime) -> Result<(), Fail> {
+fn particles_at_one_place_are_one_group_of_the_last_rank(rt: HostRuntime) -> Result<(), Fail> {
+    let alloc = rt.alloc();
+    let mut particles = String::from_str(alloc, "particles 1\ncount 4096\n")?;
+    let mut dump = String::from_str(alloc, "step 0 particles 4096 ranks 64\n")?;
+    for rank in 0..63 {
+        writeln!(
+            dump,
+            "rank {rank} particles 0 groups 0 cells 0 parts 0 listcells 0 listparts 0"
+        )?;
+    }
+    dump.push_str("rank 63 particles 4096 groups 1 cells 0 parts 0 listcells 0 listparts 4096\n")?;
+    for id in 1..4097 {
+        writeln!(particles, "{id} 9 9 9 0 0 0 1 0 0 0 0")?;
+        writeln!(dump, "p {id} 63 9 9 9 0 0 0 0 0 0 0 0 0")?;
+    }
     let inputs = Inputs {
-        settings: "grid 2x1x1\n",
-        kernel: OVER_OWN_MASS,
-        particles: "particles 1\ncount 2\n9 0 0 0 0 0 0 5 0 0 0 0\n2 100 0 0 0 0 0 5 0 0 0 0\n",
+        settings: "grid 64x1x1\ntheta 0/1\ngroup 1\n",
+        kernel: PULL,
+        particles: particles.as_str(),
     };
-    stops(
-        &rt,
-        inputs,
-        "fdps: step 0 id 2: ZeroDivisor in statement 1\n",
-        "",
-    )
+    writes(&rt, inputs, dump.as_str())
 }
