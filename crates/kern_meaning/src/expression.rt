@@ -4,6 +4,7 @@ ghost use Rattle.kern_meaning.specs.Expressions as meanings;
 ghost use Rattle.kern_meaning.specs.Links.{counted, links_of, value_by};
 ghost use Rattle.kern_meaning.specs.Names.{known_at_start, name_value as valued};
 ghost use Rattle.kern_meaning.specs.Operators as rules;
+ghost use Rattle.kern_meaning.specs.Variables.{value_of_variable};
 ghost use Rattle.kern_meaning.specs.Walks.{Gives, known_by};
 
 use crate::link::{Link, split};
@@ -11,7 +12,7 @@ use crate::operators::{
     literal_value, number, one_value, part_value, three_value, to_value, truth, two_value,
 };
 use crate::statement::Walk;
-use crate::variable::variable_value;
+use crate::variable::{Variable, of_kind};
 use crate::{Stop, Value};
 use kern_tree::{Expr, Form, Kind, Op1, Op2, Op3};
 use kern_types::ExprType;
@@ -203,13 +204,29 @@ fn read(
             }
             _ => Err(Stop::NoResult),
         },
-        Some(Link::Declared(variable)) => {
-            store(
-                variable_value(*variable, walk.i, walk.j).ok_or(Stop::NoResult),
-                value,
-            )
-        }
+        Some(Link::Declared(variable)) => declared(walk, variable, value),
         _ => Err(Stop::NoResult),
+    }
+}
+
+// Writes the value of what is declared.
+fn declared(walk: &Walk, variable: &Variable, value: &mut Value) -> Result<(), Stop>
+    ensures { Gives result (valued (value_of_variable walk.now.i.now walk.now.j.now variable.now)) value.new }
+{
+    match variable {
+        Variable::Particle(field, kind, scale) => {
+            *value = of_kind(*kind, *scale, field.of_body(walk.i));
+            Ok(())
+        }
+        Variable::Item(field, kind, scale) => {
+            *value = of_kind(*kind, *scale, field.of_item(walk.j));
+            Ok(())
+        }
+        Variable::Constant(mantissa, scale) => {
+            *value = Value::Num(*mantissa, *scale);
+            Ok(())
+        }
+        Variable::Nothing => Err(Stop::NoResult),
     }
 }
 

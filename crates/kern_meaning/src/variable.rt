@@ -64,7 +64,8 @@ pub(crate) fn variable_value(variable: Variable, i: &Body, j: &Item) -> Option<V
     }
 }
 
-fn of_kind(kind: Kind, scale: u32, components: [i64; 3]) -> Value
+/// The value of this kind and scale with these mantissas.
+pub(crate) fn of_kind(kind: Kind, scale: u32, components: [i64; 3]) -> Value
     ensures { result ≡ rules.value_of_kind kind scale components }
 {
     match kind {
