@@ -12,7 +12,7 @@ use Rattle.kern_meaning.specs.declared.stop.PairStop.{PairStop}
 use Rattle.kern_meaning.specs.declared.stop.Stop.{Stop}
 use Rattle.kern_meaning.specs.declared.value.Value.{Value}
 use Rattle.kern_meaning.specs.Names.{Known}
-use Rattle.kern_meaning.specs.Pair.{PairState, Statements}
+use Rattle.kern_meaning.specs.Pair.{OrPairStop, PairState, Statements}
 use Rattle.kern_meaning.specs.Stops.{OrStop}
 
 -- ---- numbers of names
@@ -55,6 +55,10 @@ known_by start names values name = value_or (start name) (slice_get values (numb
 -- The call's answer to an expression of this meaning: the value that it wrote, or what stopped it.
 abbrev pub Gives : Result (Unit {0}) Stop → OrStop Value → Value → Type 0
 Gives result meaning value = MatchResult result (λ _. meaning ≡ Ok value) (λ stop. meaning ≡ Err stop)
+
+-- and of one in a statement
+abbrev pub Leaves : Result (Unit {0}) PairStop → OrPairStop Value → Value → Type 0
+Leaves result meaning value = MatchResult result (λ _. meaning ≡ Ok value) (λ stop. meaning ≡ Err stop)
 
 -- ---- statements
 

@@ -9,7 +9,7 @@ ghost use Rattle.kern_meaning.specs.Walks.{Gives, known_by};
 
 use crate::link::{Link, split};
 use crate::operators::{
-    literal_value, number, one_value, part_value, three_value, to_value, truth, two_value,
+    literal_value, one_value, part_value, three_value, to_value, truth, two_value,
 };
 use crate::statement::Walk;
 use crate::variable::{Variable, of_kind};
@@ -242,21 +242,25 @@ fn store(answer: Result<Value, Stop>, value: &mut Value) -> Result<(), Stop>
     }
 }
 
-/// The value of an expression that is a num or a vec.
+/// Writes the value of an expression that is a num or a vec.
 pub(crate) fn number_value_of(
     expr: &Expr,
     links: &[Link],
     walk: &Walk,
     values: &[Option<Value>],
-) -> Result<Value, Stop>
+    value: &mut Value,
+) -> Result<(), Stop>
     requires links { links.now ≡ links_of walk.now.names.now walk.now.decls.now expr.now }
     requires same { length values.now ≡ length walk.now.names.now }
-    ensures { result ≡ meanings.number_value_of (known_by
-        (known_at_start walk.now.decls.now walk.now.i.now walk.now.j.now) walk.now.names.now values.now) expr.now }
+    ensures { Gives result (meanings.number_value_of (known_by
+        (known_at_start walk.now.decls.now walk.now.i.now walk.now.j.now) walk.now.names.now values.now) expr.now)
+        value.new }
 {
-    let mut value = Value::Condition(false);
-    value_of(expr, links, walk, values, &mut value)?;
-    number(value)
+    value_of(expr, links, walk, values, value)?;
+    match value {
+        Value::Num(_, _) | Value::Vec3(_, _) => Ok(()),
+        Value::Condition(_) => Err(Stop::NoResult),
+    }
 }
 
 /// Whether a condition holds.
@@ -276,33 +280,31 @@ pub(crate) fn truth_of(
     truth(value)
 }
 
-/// The value of an expression, which a FORCE variable of this type takes.
+/// Writes the value of an expression, which a FORCE variable of this type takes.
 pub(crate) fn contribution_of(
     expr: &Expr,
     force: Option<ExprType>,
     links: &[Link],
     walk: &Walk,
     values: &[Option<Value>],
-) -> Result<Value, Stop>
+    value: &mut Value,
+) -> Result<(), Stop>
     requires links { links.now ≡ links_of walk.now.names.now walk.now.decls.now expr.now }
     requires same { length values.now ≡ length walk.now.names.now }
-    ensures { result ≡ meanings.contribution_of (known_by
+    ensures { Gives result (meanings.contribution_of (known_by
         (known_at_start walk.now.decls.now walk.now.i.now walk.now.j.now) walk.now.names.now values.now) force
-        expr.now }
+        expr.now) value.new }
 {
-    let mut value = Value::Condition(false);
-    value_of(expr, links, walk, values, &mut value)?;
+    value_of(expr, links, walk, values, value)?;
     taken_by(force, value)
 }
 
-fn taken_by(force: Option<ExprType>, value: Value) -> Result<Value, Stop>
-    ensures { result ≡ rules.taken_by force value }
+fn taken_by(force: Option<ExprType>, value: &Value) -> Result<(), Stop>
+    ensures { Gives result (rules.taken_by force value.now) value.now }
 {
     match (force, value) {
-        (Some(ExprType::Scaled(Kind::Num, scale)), Value::Num(_, own)) if scale == own => Ok(value),
-        (Some(ExprType::Scaled(Kind::Vec3, scale)), Value::Vec3(_, own)) if scale == own => {
-            Ok(value)
-        }
+        (Some(ExprType::Scaled(Kind::Num, scale)), Value::Num(_, own)) if scale == *own => Ok(()),
+        (Some(ExprType::Scaled(Kind::Vec3, scale)), Value::Vec3(_, own)) if scale == *own => Ok(()),
         _ => Err(Stop::NoResult),
     }
 }

@@ -99,16 +99,6 @@ pub(crate) fn truth(a: Value) -> Result<bool, Stop>
     }
 }
 
-/// A num or a vec.
-pub(crate) fn number(a: Value) -> Result<Value, Stop>
-    ensures { result ≡ rules.number a }
-{
-    match a {
-        Num(_, _) | Vec3(_, _) => Ok(a),
-        Condition(_) => Err(Stop::NoResult),
-    }
-}
-
 fn negative_value(a: Value) -> Result<Value, Stop>
     ensures { result ≡ rules.negative_value a }
 {

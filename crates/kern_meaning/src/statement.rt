@@ -1,15 +1,16 @@
-ghost use Rattle.std.specs.Prelude.{◌≡◌, ◌+◌, ◌^◌, ◌<◌, [], ◌∷◌, Some, slice_set};
+ghost use Rattle.std.specs.Prelude.{◌≡◌, ◌+◌, ◌^◌, ◌<◌, Some, drop, length, slice_set};
 ghost use Rattle.kern_types.specs.Names.{declaration as declaration_of};
+ghost use Rattle.kern_meaning.specs.Expressions as meanings;
 ghost use Rattle.kern_meaning.specs.Links as resolved;
 ghost use Rattle.kern_meaning.specs.Names.{known_at_start};
 ghost use Rattle.kern_meaning.specs.Pair as rules;
-ghost use Rattle.kern_meaning.specs.Walks.{HavePlaces, Runs, assigned_by, assigned_in, pair_state};
+ghost use Rattle.kern_meaning.specs.Walks.{HavePlaces, Leaves, Runs, assigned_by, assigned_in, known_by, pair_state};
 
 use crate::expression::{contribution_of, number_value_of, truth_of};
 use crate::link::{Link, force_at, later, number_at, split};
 use crate::{PairFault, PairKind, PairStop, Stop, Value};
 use kern_token::Name;
-use kern_tree::{Act, Decl, Stmt};
+use kern_tree::{Act, Decl, Expr, Stmt};
 use pf_model::{Body, Item};
 use pf_num::NumFault;
 
@@ -82,15 +83,14 @@ impl Walk<'_> {
     {
         match act {
             Act::Set(_, value) => {
-                let held = number_value_of(value, later(links), self, values);
-                let held = at_statement(self.coincident, number, held)?;
+                let mut held = Value::Condition(false);
+                self.hold(value, later(links), number, values, &mut held)?;
                 assign(values, number_at(links), held);
                 Ok((number + 1, slot))
             }
             Act::Give(_, value) => {
-                let force = force_at(links);
-                let given = contribution_of(value, force, later(links), self, values);
-                let given = at_statement(self.coincident, number, given)?;
+                let mut given = Value::Condition(false);
+                self.contribute(value, links, number, values, &mut given)?;
                 give(slots, slot, given);
                 Ok((number + 1, slot + 1))
             }
@@ -113,6 +113,48 @@ impl Walk<'_> {
                     self.block(others.as_slice(), blocks.1, start.0, start.1, values, slots)
                 }
             }
+        }
+    }
+
+    // Writes the value that the statement of this number assigns.
+    fn hold(
+        &self,
+        expr: &Expr,
+        links: &[Link],
+        number: u32,
+        values: &[Option<Value>],
+        held: &mut Value,
+    ) -> Result<(), PairStop>
+        requires links { links.now ≡ resolved.links_of self.now.names.now self.now.decls.now expr.now }
+        requires same { length values.now ≡ length self.now.names.now }
+        ensures { Leaves result (rules.at_statement self.now.coincident number (meanings.number_value_of (known_by
+            (known_at_start self.now.decls.now self.now.i.now self.now.j.now) self.now.names.now values.now)
+            expr.now)) held.new }
+    {
+        match number_value_of(expr, links, self, values, held) {
+            Ok(()) => Ok(()),
+            Err(stop) => Err(pair_stop(self.coincident, number, stop)),
+        }
+    }
+
+    // Writes what the statement of this number contributes.
+    fn contribute(
+        &self,
+        expr: &Expr,
+        links: &[Link],
+        number: u32,
+        values: &[Option<Value>],
+        given: &mut Value,
+    ) -> Result<(), PairStop>
+        requires links { drop 1 links.now ≡ resolved.links_of self.now.names.now self.now.decls.now expr.now }
+        requires same { length values.now ≡ length self.now.names.now }
+        ensures { Leaves result (rules.at_statement self.now.coincident number (meanings.contribution_of (known_by
+            (known_at_start self.now.decls.now self.now.i.now self.now.j.now) self.now.names.now values.now)
+            (resolved.force_at links.now) expr.now)) given.new }
+    {
+        match contribution_of(expr, force_at(links), later(links), self, values, given) {
+            Ok(()) => Ok(()),
+            Err(stop) => Err(pair_stop(self.coincident, number, stop)),
         }
     }
 

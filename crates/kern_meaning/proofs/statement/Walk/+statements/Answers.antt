@@ -102,11 +102,11 @@ block-loop-stmt-preserved t c =
       links = c.split-parts.ensures.others ∙ later_links c.args.self.now.names.now c.args.self.now.decls.now c.args.block.now c.loop-stmt.stmt-index c.stmt-item.result is c.loop-stmt.rest.now c.loop-stmt.invariant.links;
     }
 
-pub act-returns-in_ok-held-in-Set : goal.act-returns-in_ok-held-in-Set
-act-returns-in_ok-held-in-Set t c =
+pub act-returns-in_ok-hold-in-Set : goal.act-returns-in_ok-hold-in-Set
+act-returns-in_ok-hold-in-Set t c =
     set_runs c.args.self.now.names.now c.args.self.now.decls.now c.args.act.now c.args.self.now.coincident (known_at_start c.args.self.now.decls.now c.args.self.now.i.now c.args.self.now.j.now) c.in-Set.field-0 c.in-Set.value c.in-Set.is c.args.links.now c.requires.links c.args.number c.args.slot
-    c.args.values.now c.assign.new.values c.args.slots.now c.requires.places c.in_ok-held-in-Set.held (ap (at_statement c.args.self.now.coincident c.args.number) (sym c.number_value_of-held.ensures) ∙ sym c.in_ok-held-in-Set.ensures)
-    (c.assign.ensures ∙ ap (λ k. assigned c.args.values.now k c.in_ok-held-in-Set.held) c.number_at.ensures)
+    c.args.values.now c.assign.new.values c.args.slots.now c.requires.places c.hold.new.held c.in_ok-hold-in-Set.ensures
+    (c.assign.ensures ∙ ap (λ k. assigned c.args.values.now k c.hold.new.held) c.number_at.ensures)
 
 pub act-past-requires-clause-numbers : goal.act-past-requires-clause-numbers
 act-past-requires-clause-numbers t c =
