@@ -33,7 +33,8 @@ fn value_of(
     requires links { links.now ≡ links_of walk.now.names.now walk.now.decls.now expr.now }
     requires same { length values.now ≡ length walk.now.names.now }
     ensures { Gives result (meanings.value_of (known_by
-        (known_at_start walk.now.decls.now walk.now.i.now walk.now.j.now) walk.now.names.now values.now) expr.now)
+        (known_at_start walk.now.decls.now walk.now.i.now walk.now.j.now) walk.now.names.now values.now)
+        expr.now)
         value.new }
 {
     match &expr.form {
@@ -64,7 +65,8 @@ fn part_of(
     ensures { Gives result (meanings.form_meaning (known_by
         (known_at_start walk.now.decls.now walk.now.i.now walk.now.j.now) walk.now.names.now values.now)
         (layers.Part (meanings.value_of (known_by
-        (known_at_start walk.now.decls.now walk.now.i.now walk.now.j.now) walk.now.names.now values.now) a.now) axis)) value.new }
+        (known_at_start walk.now.decls.now walk.now.i.now walk.now.j.now) walk.now.names.now values.now)
+        a.now) axis)) value.new }
 {
     value_of(a, links, walk, values, value)?;
     store(part_value(axis, *value), value)
@@ -85,7 +87,8 @@ fn one_of(
     ensures { Gives result (meanings.form_meaning (known_by
         (known_at_start walk.now.decls.now walk.now.i.now walk.now.j.now) walk.now.names.now values.now)
         (layers.One op (meanings.value_of (known_by
-        (known_at_start walk.now.decls.now walk.now.i.now walk.now.j.now) walk.now.names.now values.now) a.now))) value.new }
+        (known_at_start walk.now.decls.now walk.now.i.now walk.now.j.now) walk.now.names.now values.now)
+        a.now))) value.new }
 {
     value_of(a, links, walk, values, value)?;
     store(one_value(op, *value), value)
@@ -106,7 +109,8 @@ fn to_of(
     ensures { Gives result (meanings.form_meaning (known_by
         (known_at_start walk.now.decls.now walk.now.i.now walk.now.j.now) walk.now.names.now values.now)
         (layers.To scale (meanings.value_of (known_by
-        (known_at_start walk.now.decls.now walk.now.i.now walk.now.j.now) walk.now.names.now values.now) a.now))) value.new }
+        (known_at_start walk.now.decls.now walk.now.i.now walk.now.j.now) walk.now.names.now values.now)
+        a.now))) value.new }
 {
     value_of(a, links, walk, values, value)?;
     store(to_value(scale, *value), value)
@@ -129,9 +133,11 @@ fn two_of(
     ensures { Gives result (meanings.form_meaning (known_by
         (known_at_start walk.now.decls.now walk.now.i.now walk.now.j.now) walk.now.names.now values.now)
         (layers.Two op (meanings.value_of (known_by
-        (known_at_start walk.now.decls.now walk.now.i.now walk.now.j.now) walk.now.names.now values.now) a.now)
+        (known_at_start walk.now.decls.now walk.now.i.now walk.now.j.now) walk.now.names.now values.now)
+        a.now)
         (meanings.value_of (known_by
-        (known_at_start walk.now.decls.now walk.now.i.now walk.now.j.now) walk.now.names.now values.now) b.now))) value.new }
+        (known_at_start walk.now.decls.now walk.now.i.now walk.now.j.now) walk.now.names.now values.now)
+        b.now))) value.new }
 {
     let parts = split(links);
     value_of(a, parts.0, walk, values, value)?;
@@ -170,11 +176,14 @@ fn three_of(
     ensures { Gives result (meanings.form_meaning (known_by
         (known_at_start walk.now.decls.now walk.now.i.now walk.now.j.now) walk.now.names.now values.now)
         (layers.Three op (meanings.value_of (known_by
-        (known_at_start walk.now.decls.now walk.now.i.now walk.now.j.now) walk.now.names.now values.now) a.now)
+        (known_at_start walk.now.decls.now walk.now.i.now walk.now.j.now) walk.now.names.now values.now)
+        a.now)
         (meanings.value_of (known_by
-        (known_at_start walk.now.decls.now walk.now.i.now walk.now.j.now) walk.now.names.now values.now) b.now)
+        (known_at_start walk.now.decls.now walk.now.i.now walk.now.j.now) walk.now.names.now values.now)
+        b.now)
         (meanings.value_of (known_by
-        (known_at_start walk.now.decls.now walk.now.i.now walk.now.j.now) walk.now.names.now values.now) c.now))) value.new }
+        (known_at_start walk.now.decls.now walk.now.i.now walk.now.j.now) walk.now.names.now values.now)
+        c.now))) value.new }
 {
     let parts = split(links);
     value_of(a, parts.0, walk, values, value)?;
@@ -253,7 +262,8 @@ pub(crate) fn number_value_of(
     requires links { links.now ≡ links_of walk.now.names.now walk.now.decls.now expr.now }
     requires same { length values.now ≡ length walk.now.names.now }
     ensures { Gives result (meanings.number_value_of (known_by
-        (known_at_start walk.now.decls.now walk.now.i.now walk.now.j.now) walk.now.names.now values.now) expr.now)
+        (known_at_start walk.now.decls.now walk.now.i.now walk.now.j.now) walk.now.names.now values.now)
+        expr.now)
         value.new }
 {
     value_of(expr, links, walk, values, value)?;
@@ -273,7 +283,8 @@ pub(crate) fn truth_of(
     requires links { links.now ≡ links_of walk.now.names.now walk.now.decls.now expr.now }
     requires same { length values.now ≡ length walk.now.names.now }
     ensures { result ≡ meanings.truth_of (known_by
-        (known_at_start walk.now.decls.now walk.now.i.now walk.now.j.now) walk.now.names.now values.now) expr.now }
+        (known_at_start walk.now.decls.now walk.now.i.now walk.now.j.now) walk.now.names.now values.now)
+        expr.now }
 {
     let mut value = Value::Condition(false);
     value_of(expr, links, walk, values, &mut value)?;
@@ -292,7 +303,8 @@ pub(crate) fn contribution_of(
     requires links { links.now ≡ links_of walk.now.names.now walk.now.decls.now expr.now }
     requires same { length values.now ≡ length walk.now.names.now }
     ensures { Gives result (meanings.contribution_of (known_by
-        (known_at_start walk.now.decls.now walk.now.i.now walk.now.j.now) walk.now.names.now values.now) force
+        (known_at_start walk.now.decls.now walk.now.i.now walk.now.j.now) walk.now.names.now values.now)
+        force
         expr.now) value.new }
 {
     value_of(expr, links, walk, values, value)?;

@@ -61,7 +61,13 @@ fn run(
 ) -> Result<(), PairStop>
     requires parsed { IsParsed k.now }
     requires made { IsMadeFor k.now
-        (record { names = names.now; links = links.now; variables = variables.now; values = values.old; given = slots.old }) }
+        (record {
+          names = names.now;
+          links = links.now;
+          variables = variables.now;
+          values = values.old;
+          given = slots.old;
+        }) }
     ensures { MatchResult result
         (λ _. rules.pair_of k.now i.now j.now ≡ Ok slots.new)
         (λ stop. rules.pair_of k.now i.now j.now ≡ Err stop) }

@@ -45,8 +45,10 @@ impl Walk<'_> {
         requires places { HavePlaces self.now.names.now values.old (assigned_in block.now) }
         requires links { links.now ≡ resolved.links_of_block self.now.names.now self.now.decls.now block.now }
         ensures { Runs result (rules.block_meaning self.now.decls.now self.now.coincident block.now) first before
-            (pair_state (known_at_start self.now.decls.now self.now.i.now self.now.j.now) self.now.names.now values.old slots.old)
-            (pair_state (known_at_start self.now.decls.now self.now.i.now self.now.j.now) self.now.names.now values.new slots.new) }
+            (pair_state (known_at_start self.now.decls.now self.now.i.now self.now.j.now)
+            self.now.names.now values.old slots.old)
+            (pair_state (known_at_start self.now.decls.now self.now.i.now self.now.j.now)
+            self.now.names.now values.new slots.new) }
     {
         let mut number = first;
         let mut slot = before;
@@ -78,8 +80,10 @@ impl Walk<'_> {
         requires places { HavePlaces self.now.names.now values.old (assigned_by act.now) }
         requires links { links.now ≡ resolved.links_of_act self.now.names.now self.now.decls.now act.now }
         ensures { Runs result (rules.act_meaning self.now.decls.now self.now.coincident act.now) number slot
-            (pair_state (known_at_start self.now.decls.now self.now.i.now self.now.j.now) self.now.names.now values.old slots.old)
-            (pair_state (known_at_start self.now.decls.now self.now.i.now self.now.j.now) self.now.names.now values.new slots.new) }
+            (pair_state (known_at_start self.now.decls.now self.now.i.now self.now.j.now)
+            self.now.names.now values.old slots.old)
+            (pair_state (known_at_start self.now.decls.now self.now.i.now self.now.j.now)
+            self.now.names.now values.new slots.new) }
     {
         match act {
             Act::Set(_, value) => {
