@@ -13,7 +13,7 @@ use Rattle.pf_model.specs.Totals.{Source}
 use Rattle.kern_meaning.specs.declared.link.Link.{Link}
 use Rattle.kern_meaning.specs.declared.value.Value.{Value}
 use Rattle.kern_meaning.specs.Expressions.{value_of, number_value_of, form_value, form_meaning, value_of_form}
-use Rattle.kern_meaning.specs.Links.{counted, first_part, other_part, number_at, assigned, value_by, form_links, expr_links, links_of, act_links, stmt_links, links_of_act, links_of_block}
+use Rattle.kern_meaning.specs.Links.{with_count, first_part, other_part, assigned_number, assigned, value_by, form_links, expr_links, links_of, act_links, stmt_links, links_of_act, links_of_block}
 use Rattle.kern_meaning.specs.Names.{Known, known_at_start, name_value, with_value}
 use Rattle.kern_meaning.specs.Pair.{at_statement, act_meaning, Statements}
 use Rattle.kern_meaning.specs.Stops.{◌>>=◌}
@@ -22,14 +22,14 @@ use Rattle.kern_meaning.proofs.Layers.{of_form, name_layer, set_layer, if_layer}
 use Rattle.kern_meaning.proofs.Meanings.{set_is}
 use Rattle.kern_meaning.proofs.NamePlaces.{assigned_known, link_known}
 
-pub first_counted : (all xs ys : List Link) → all ≡ counted xs ++ ys → first_part all ≡ xs
+pub first_counted : (all xs ys : List Link) → all ≡ with_count xs ++ ys → first_part all ≡ xs
 first_counted all xs ys e = ap first_part e ∙ take-append_seam xs ys
 
-pub other_counted : (all xs ys : List Link) → all ≡ counted xs ++ ys → other_part all ≡ ys
+pub other_counted : (all xs ys : List Link) → all ≡ with_count xs ++ ys → other_part all ≡ ys
 other_counted all xs ys e = ap other_part e ∙ drop-append_seam xs ys
 
 -- what is made of two parts
-pub made_of : {A E : Type 0} (items : A → List Link) (r : Result A E) (first others all : List Link) → IfOk r (λ made. items made ≡ counted first ++ others) → counted first ++ others ≡ all → IfOk r (λ made. items made ≡ all)
+pub made_of : {A E : Type 0} (items : A → List Link) (r : Result A E) (first others all : List Link) → IfOk r (λ made. items made ≡ with_count first ++ others) → with_count first ++ others ≡ all → IfOk r (λ made. items made ≡ all)
 made_of items (Ok made) first others all e f = e ∙ f
 made_of items (Err fault) first others all e f = tt
 
@@ -46,22 +46,22 @@ module _ (names : List (List ℕ)) (decls : List Decl) (act : Act) where
   -- ---- the blocks of an `if`
 
   module _ (condition : Expr) (body others read read_other : List Stmt) (is : act ≡ acts.If condition body others) (same : read ≡ body) (same_other : read_other ≡ others) where
-    if_links : links_of_act names decls act ≡ counted (links_of names decls condition) ++ (counted (links_of_block names decls read) ++ links_of_block names decls read_other)
+    if_links : links_of_act names decls act ≡ with_count (links_of names decls condition) ++ (with_count (links_of_block names decls read) ++ links_of_block names decls read_other)
     if_links =
         ap (links_of_act names decls) is ∙ if_layer (act_links names decls) stmt_links condition body others
-        ∙ ap (λ b. counted (links_of names decls condition) ++ (counted (links_of_block names decls b) ++ links_of_block names decls others)) (sym same)
-        ∙ ap (λ b. counted (links_of names decls condition) ++ (counted (links_of_block names decls read) ++ links_of_block names decls b)) (sym same_other)
+        ∙ ap (λ b. with_count (links_of names decls condition) ++ (with_count (links_of_block names decls b) ++ links_of_block names decls others)) (sym same)
+        ∙ ap (λ b. with_count (links_of names decls condition) ++ (with_count (links_of_block names decls read) ++ links_of_block names decls b)) (sym same_other)
 
     -- made of those of its parts
-    pub if_made : (first one two rest : List Link) → first ≡ links_of names decls condition → one ≡ links_of_block names decls read → two ≡ links_of_block names decls read_other → rest ≡ counted one ++ two
-        → counted first ++ rest ≡ links_of_act names decls act
+    pub if_made : (first one two rest : List Link) → first ≡ links_of names decls condition → one ≡ links_of_block names decls read → two ≡ links_of_block names decls read_other → rest ≡ with_count one ++ two
+        → with_count first ++ rest ≡ links_of_act names decls act
     if_made first one two rest e f g h =
-        ap (λ x. counted x ++ rest) e
-        ∙ ap (λ x. counted (links_of names decls condition) ++ x) (h ∙ ap (λ x. counted x ++ two) f ∙ ap (λ x. counted (links_of_block names decls read) ++ x) g)
+        ap (λ x. with_count x ++ rest) e
+        ∙ ap (λ x. with_count (links_of names decls condition) ++ x) (h ∙ ap (λ x. with_count x ++ two) f ∙ ap (λ x. with_count (links_of_block names decls read) ++ x) g)
         ∙ sym if_links
 
     module _ (links parts : List Link) (are : links ≡ links_of_act names decls act) (rest : parts ≡ other_part links) where
-      blocks : parts ≡ counted (links_of_block names decls read) ++ links_of_block names decls read_other
+      blocks : parts ≡ with_count (links_of_block names decls read) ++ links_of_block names decls read_other
       blocks = rest ∙ other_counted links _ _ (are ∙ if_links)
 
       pub then_links : first_part parts ≡ links_of_block names decls read
@@ -74,8 +74,8 @@ module _ (names : List (List ℕ)) (decls : List Decl) (act : Act) where
 
   module _ (coincident : Bool) (start : Known) (name : List ℕ) (value : Expr) (is : act ≡ acts.Set name value) (links : List Link) (are : links ≡ links_of_act names decls act) (n slot : ℕ)
       (values new slots : List (Option Value)) (places : HavePlaces names values (assigned_by act)) (held : Value) where
-    numbered : number_at links ≡ Some (number_of names name)
-    numbered = ap number_at (are ∙ ap (links_of_act names decls) is ∙ set_layer (act_links names decls) stmt_links name value)
+    numbered : assigned_number links ≡ Some (number_of names name)
+    numbered = ap assigned_number (are ∙ ap (links_of_act names decls) is ∙ set_layer (act_links names decls) stmt_links name value)
 
     one_name : assigned_by act ≡ name ∷ []
     one_name = ap assigned_by is ∙ set_layer act_assigned stmt_assigned name value
@@ -83,7 +83,7 @@ module _ (names : List (List ℕ)) (decls : List Decl) (act : Act) where
     has_place : HasPlace names name
     has_place = (subst (λ (ns : List (List ℕ)). AllByRecursion (HasPlace names) ns) one_name places.each).0
 
-    pub set_runs : at_statement coincident n (number_value_of (known_by start names values) value) ≡ Ok held → new ≡ assigned values (number_at links) held
+    pub set_runs : at_statement coincident n (number_value_of (known_by start names values) value) ≡ Ok held → new ≡ assigned values (assigned_number links) held
         → ((act_meaning decls coincident act).run n slot (pair_state start names values slots) ≡ Ok (pair_state start names new slots)) × (n + 1 ≡ n + (act_meaning decls coincident act).count) × (slot ≡ slot + (act_meaning decls coincident act).slots)
     set_runs holds changed =
         let meaning = set_is decls coincident act name value is in
@@ -99,7 +99,7 @@ module _ (names : List (List ℕ)) (decls : List Decl) (act : Act) where
 -- ---- one statement of a block after another
 
 module _ (names : List (List ℕ)) (decls : List Decl) (block : List Stmt) (k : ℕ) (stmt : Stmt) (is : drop k block ≡ stmt ∷ drop (k + 1) block) (rest : List Link) (are : rest ≡ links_of_block names decls (drop k block)) where
-  next_links : rest ≡ counted (links_of_act names decls stmt.act) ++ links_of_block names decls (drop (k + 1) block)
+  next_links : rest ≡ with_count (links_of_act names decls stmt.act) ++ links_of_block names decls (drop (k + 1) block)
   next_links = are ∙ ap (links_of_block names decls) is
 
   pub own_links : first_part rest ≡ links_of_act names decls stmt.act

@@ -25,8 +25,8 @@ use Rattle.pf_model.specs.Totals.{Source}
 -- ---- parts
 
 -- links with their count before them
-abbrev pub counted : List Link → List Link
-counted part = links.Count (length part) ∷ part
+abbrev pub with_count : List Link → List Link
+with_count part = links.Count (length part) ∷ part
 
 -- the links that are counted first, and those after them
 abbrev pub first_part : List Link → List Link
@@ -38,9 +38,9 @@ other_part (links.Count n ∷ others) = drop n others
 other_part _ = []
 
 -- the number of the name that stands first
-abbrev pub number_at : List Link → Option ℕ
-number_at (links.Assigned n ∷ others) = Some n
-number_at _ = None
+abbrev pub assigned_number : List Link → Option ℕ
+assigned_number (links.Assigned n ∷ others) = Some n
+assigned_number _ = None
 
 -- the type of the FORCE variable that stands first
 abbrev pub force_at : List Link → Option ExprType
@@ -64,7 +64,7 @@ abbrev pub stmt_links : Stmt-F (List Link) (List Link) → List Link
 stmt_links stmt = stmt.act
 
 abbrev pub all_counted : List (List Link) → List Link
-all_counted parts = flat_map (λ part. counted part) parts
+all_counted parts = flat_map (λ part. with_count part) parts
 
 abbrev pub expr_links : Expr-F (List Link) (List Link) → List Link
 expr_links expr = expr.form
@@ -82,8 +82,8 @@ module _ (names : List (List ℕ)) (decls : List Decl) where
   form_links (forms.Name name) = link_of name ∷ []
   form_links (forms.Part whole axis) = whole
   form_links (forms.One op operand) = operand
-  form_links (forms.Two op left right) = counted left ++ right
-  form_links (forms.Three op first second third) = counted first ++ (counted second ++ third)
+  form_links (forms.Two op left right) = with_count left ++ right
+  form_links (forms.Three op first second third) = with_count first ++ (with_count second ++ third)
   form_links (forms.To k operand) = operand
 
   abbrev pub links_of : Expr → List Link
@@ -95,7 +95,7 @@ module _ (names : List (List ℕ)) (decls : List Decl) where
   act_links (acts.Set name value) = links.Assigned (number_of names name) ∷ links_of value
   act_links (acts.Give name value) = links.Force (force_type (declaration decls name)) ∷ links_of value
   act_links (acts.If condition body others) =
-      counted (links_of condition) ++ (counted (all_counted body) ++ all_counted others)
+      with_count (links_of condition) ++ (with_count (all_counted body) ++ all_counted others)
 
   abbrev pub links_of_act : Act → List Link
   links_of_act = fold-Act (List Link) (List Link) act_links stmt_links

@@ -52,13 +52,13 @@ value_or start (Some value) = value
 abbrev pub known_by : Known → List (List ℕ) → List (Option Value) → Known
 known_by start names values name = value_or (start name) (slice_get values (number_of names name))
 
--- The call's answer to an expression of this meaning: the value that it wrote, or what stopped it.
-abbrev pub Gives : Result (Unit {0}) Stop → OrStop Value → Value → Type 0
-Gives result meaning value = MatchResult result (λ _. meaning ≡ Ok value) (λ stop. meaning ≡ Err stop)
+-- The call has written the value of an expression of this meaning, or says what stopped it.
+abbrev pub WritesValue : Result (Unit {0}) Stop → OrStop Value → Value → Type 0
+WritesValue result meaning value = MatchResult result (λ _. meaning ≡ Ok value) (λ stop. meaning ≡ Err stop)
 
--- and of one in a statement
-abbrev pub Leaves : Result (Unit {0}) PairStop → OrPairStop Value → Value → Type 0
-Leaves result meaning value = MatchResult result (λ _. meaning ≡ Ok value) (λ stop. meaning ≡ Err stop)
+-- and so of the expression of a statement
+abbrev pub WritesAt : Result (Unit {0}) PairStop → OrPairStop Value → Value → Type 0
+WritesAt result meaning value = MatchResult result (λ _. meaning ≡ Ok value) (λ stop. meaning ≡ Err stop)
 
 -- ---- statements
 

@@ -1,11 +1,11 @@
 ghost use Rattle.std.specs.Prelude.{◌≡◌, ◌++◌, length};
 ghost use Rattle.kern_tree.specs.declared.expr.Form.TheOpen as layers;
 ghost use Rattle.kern_meaning.specs.Expressions as meanings;
-ghost use Rattle.kern_meaning.specs.Links.{counted, links_of, value_by};
+ghost use Rattle.kern_meaning.specs.Links.{with_count, links_of, value_by};
 ghost use Rattle.kern_meaning.specs.Names.{known_at_start, name_value as valued};
 ghost use Rattle.kern_meaning.specs.Operators as rules;
 ghost use Rattle.kern_meaning.specs.Variables.{value_of_variable};
-ghost use Rattle.kern_meaning.specs.Walks.{Gives, known_by};
+ghost use Rattle.kern_meaning.specs.Walks.{WritesValue, known_by};
 
 use crate::link::{Link, split};
 use crate::operators::{
@@ -32,7 +32,7 @@ fn value_of(
 ) -> Result<(), Stop>
     requires links { links.now ≡ links_of walk.now.names.now walk.now.decls.now expr.now }
     requires same { length values.now ≡ length walk.now.names.now }
-    ensures { Gives result (meanings.value_of (known_by
+    ensures { WritesValue result (meanings.value_of (known_by
         (known_at_start walk.now.decls.now walk.now.i.now walk.now.j.now) walk.now.names.now values.now)
         expr.now)
         value.new }
@@ -62,7 +62,7 @@ fn part_of(
 ) -> Result<(), Stop>
     requires links { links.now ≡ links_of walk.now.names.now walk.now.decls.now a.now }
     requires same { length values.now ≡ length walk.now.names.now }
-    ensures { Gives result (meanings.form_meaning (known_by
+    ensures { WritesValue result (meanings.form_meaning (known_by
         (known_at_start walk.now.decls.now walk.now.i.now walk.now.j.now) walk.now.names.now values.now)
         (layers.Part (meanings.value_of (known_by
         (known_at_start walk.now.decls.now walk.now.i.now walk.now.j.now) walk.now.names.now values.now)
@@ -84,7 +84,7 @@ fn one_of(
 ) -> Result<(), Stop>
     requires links { links.now ≡ links_of walk.now.names.now walk.now.decls.now a.now }
     requires same { length values.now ≡ length walk.now.names.now }
-    ensures { Gives result (meanings.form_meaning (known_by
+    ensures { WritesValue result (meanings.form_meaning (known_by
         (known_at_start walk.now.decls.now walk.now.i.now walk.now.j.now) walk.now.names.now values.now)
         (layers.One op (meanings.value_of (known_by
         (known_at_start walk.now.decls.now walk.now.i.now walk.now.j.now) walk.now.names.now values.now)
@@ -106,7 +106,7 @@ fn to_of(
 ) -> Result<(), Stop>
     requires links { links.now ≡ links_of walk.now.names.now walk.now.decls.now a.now }
     requires same { length values.now ≡ length walk.now.names.now }
-    ensures { Gives result (meanings.form_meaning (known_by
+    ensures { WritesValue result (meanings.form_meaning (known_by
         (known_at_start walk.now.decls.now walk.now.i.now walk.now.j.now) walk.now.names.now values.now)
         (layers.To scale (meanings.value_of (known_by
         (known_at_start walk.now.decls.now walk.now.i.now walk.now.j.now) walk.now.names.now values.now)
@@ -127,10 +127,10 @@ fn two_of(
     values: &[Option<Value>],
     value: &mut Value,
 ) -> Result<(), Stop>
-    requires links { links.now ≡ counted (links_of walk.now.names.now walk.now.decls.now a.now)
+    requires links { links.now ≡ with_count (links_of walk.now.names.now walk.now.decls.now a.now)
         ++ links_of walk.now.names.now walk.now.decls.now b.now }
     requires same { length values.now ≡ length walk.now.names.now }
-    ensures { Gives result (meanings.form_meaning (known_by
+    ensures { WritesValue result (meanings.form_meaning (known_by
         (known_at_start walk.now.decls.now walk.now.i.now walk.now.j.now) walk.now.names.now values.now)
         (layers.Two op (meanings.value_of (known_by
         (known_at_start walk.now.decls.now walk.now.i.now walk.now.j.now) walk.now.names.now values.now)
@@ -169,11 +169,11 @@ fn three_of(
     values: &[Option<Value>],
     value: &mut Value,
 ) -> Result<(), Stop>
-    requires links { links.now ≡ counted (links_of walk.now.names.now walk.now.decls.now a.now)
-        ++ (counted (links_of walk.now.names.now walk.now.decls.now b.now)
+    requires links { links.now ≡ with_count (links_of walk.now.names.now walk.now.decls.now a.now)
+        ++ (with_count (links_of walk.now.names.now walk.now.decls.now b.now)
         ++ links_of walk.now.names.now walk.now.decls.now c.now) }
     requires same { length values.now ≡ length walk.now.names.now }
-    ensures { Gives result (meanings.form_meaning (known_by
+    ensures { WritesValue result (meanings.form_meaning (known_by
         (known_at_start walk.now.decls.now walk.now.i.now walk.now.j.now) walk.now.names.now values.now)
         (layers.Three op (meanings.value_of (known_by
         (known_at_start walk.now.decls.now walk.now.i.now walk.now.j.now) walk.now.names.now values.now)
@@ -203,7 +203,7 @@ fn read(
     links: &[Link],
     value: &mut Value,
 ) -> Result<(), Stop>
-    ensures { Gives result (valued (value_by walk.now.i.now walk.now.j.now values.now links.now)) value.new }
+    ensures { WritesValue result (valued (value_by walk.now.i.now walk.now.j.now values.now links.now)) value.new }
 {
     match links.first() {
         Some(Link::Assigned(number)) => match values.get(*number) {
@@ -220,7 +220,7 @@ fn read(
 
 // Writes the value of what is declared.
 fn declared(walk: &Walk, variable: &Variable, value: &mut Value) -> Result<(), Stop>
-    ensures { Gives result (valued (value_of_variable walk.now.i.now walk.now.j.now variable.now)) value.new }
+    ensures { WritesValue result (valued (value_of_variable walk.now.i.now walk.now.j.now variable.now)) value.new }
 {
     match variable {
         Variable::Particle(field, kind, scale) => {
@@ -240,7 +240,7 @@ fn declared(walk: &Walk, variable: &Variable, value: &mut Value) -> Result<(), S
 }
 
 fn store(answer: Result<Value, Stop>, value: &mut Value) -> Result<(), Stop>
-    ensures { Gives result answer value.new }
+    ensures { WritesValue result answer value.new }
 {
     match answer {
         Ok(written) => {
@@ -261,7 +261,7 @@ pub(crate) fn number_value_of(
 ) -> Result<(), Stop>
     requires links { links.now ≡ links_of walk.now.names.now walk.now.decls.now expr.now }
     requires same { length values.now ≡ length walk.now.names.now }
-    ensures { Gives result (meanings.number_value_of (known_by
+    ensures { WritesValue result (meanings.number_value_of (known_by
         (known_at_start walk.now.decls.now walk.now.i.now walk.now.j.now) walk.now.names.now values.now)
         expr.now)
         value.new }
@@ -302,7 +302,7 @@ pub(crate) fn contribution_of(
 ) -> Result<(), Stop>
     requires links { links.now ≡ links_of walk.now.names.now walk.now.decls.now expr.now }
     requires same { length values.now ≡ length walk.now.names.now }
-    ensures { Gives result (meanings.contribution_of (known_by
+    ensures { WritesValue result (meanings.contribution_of (known_by
         (known_at_start walk.now.decls.now walk.now.i.now walk.now.j.now) walk.now.names.now values.now)
         force
         expr.now) value.new }
@@ -312,7 +312,7 @@ pub(crate) fn contribution_of(
 }
 
 fn taken_by(force: Option<ExprType>, value: &Value) -> Result<(), Stop>
-    ensures { Gives result (rules.taken_by force value.now) value.now }
+    ensures { WritesValue result (rules.taken_by force value.now) value.now }
 {
     match (force, value) {
         (Some(ExprType::Scaled(Kind::Num, scale)), Value::Num(_, own)) if scale == *own => Ok(()),

@@ -41,8 +41,8 @@ fn split_at(links: &[Link], count: usize) -> (&[Link], &[Link])
 }
 
 /// The number of the name that stands first.
-pub(crate) fn number_at(links: &[Link]) -> Option<usize>
-    ensures { result ≡ rules.number_at links.now }
+pub(crate) fn assigned_number(links: &[Link]) -> Option<usize>
+    ensures { result ≡ rules.assigned_number links.now }
 {
     match links.first() {
         Some(Link::Assigned(number)) => Some(*number),

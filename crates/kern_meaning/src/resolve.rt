@@ -89,7 +89,7 @@ fn expr_links(
 
 // The first links, counted, and the others.
 fn joined(alloc: Global, first: &[Link], others: &[Link]) -> Result<Vec<Link>, AllocError>
-    ensures { IfOk result (λ links. links.items ≡ rules.counted first.now ++ others.now) }
+    ensures { IfOk result (λ links. links.items ≡ rules.with_count first.now ++ others.now) }
 {
     let mut links = Vec::new(alloc);
     push_counted(&mut links, first)?;
@@ -98,7 +98,7 @@ fn joined(alloc: Global, first: &[Link], others: &[Link]) -> Result<Vec<Link>, A
 }
 
 fn push_counted(links: &mut Vec<Link>, part: &[Link]) -> Result<(), AllocError>
-    ensures { OnOk result (links.new.items ≡ links.old.items ++ rules.counted part.now) }
+    ensures { OnOk result (links.new.items ≡ links.old.items ++ rules.with_count part.now) }
 {
     links.push(Link::Count(part.len()))?;
     links.extend_from_slice(part)?;

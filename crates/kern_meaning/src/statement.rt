@@ -4,10 +4,10 @@ ghost use Rattle.kern_meaning.specs.Expressions as meanings;
 ghost use Rattle.kern_meaning.specs.Links as resolved;
 ghost use Rattle.kern_meaning.specs.Names.{known_at_start};
 ghost use Rattle.kern_meaning.specs.Pair as rules;
-ghost use Rattle.kern_meaning.specs.Walks.{HavePlaces, Leaves, Runs, assigned_by, assigned_in, known_by, pair_state};
+ghost use Rattle.kern_meaning.specs.Walks.{HavePlaces, WritesAt, Runs, assigned_by, assigned_in, known_by, pair_state};
 
 use crate::expression::{contribution_of, number_value_of, truth_of};
-use crate::link::{Link, force_at, later, number_at, split};
+use crate::link::{Link, assigned_number, force_at, later, split};
 use crate::{PairFault, PairKind, PairStop, Stop, Value};
 use kern_token::Name;
 use kern_tree::{Act, Decl, Expr, Stmt};
@@ -89,7 +89,7 @@ impl Walk<'_> {
             Act::Set(_, value) => {
                 let mut held = Value::Condition(false);
                 self.hold(value, later(links), number, values, &mut held)?;
-                assign(values, number_at(links), held);
+                assign(values, assigned_number(links), held);
                 Ok((number + 1, slot))
             }
             Act::Give(_, value) => {
@@ -131,7 +131,7 @@ impl Walk<'_> {
     ) -> Result<(), PairStop>
         requires links { links.now ≡ resolved.links_of self.now.names.now self.now.decls.now expr.now }
         requires same { length values.now ≡ length self.now.names.now }
-        ensures { Leaves result (rules.at_statement self.now.coincident number (meanings.number_value_of (known_by
+        ensures { WritesAt result (rules.at_statement self.now.coincident number (meanings.number_value_of (known_by
             (known_at_start self.now.decls.now self.now.i.now self.now.j.now) self.now.names.now values.now)
             expr.now)) held.new }
     {
@@ -152,7 +152,7 @@ impl Walk<'_> {
     ) -> Result<(), PairStop>
         requires links { drop 1 links.now ≡ resolved.links_of self.now.names.now self.now.decls.now expr.now }
         requires same { length values.now ≡ length self.now.names.now }
-        ensures { Leaves result (rules.at_statement self.now.coincident number (meanings.contribution_of (known_by
+        ensures { WritesAt result (rules.at_statement self.now.coincident number (meanings.contribution_of (known_by
             (known_at_start self.now.decls.now self.now.i.now self.now.j.now) self.now.names.now values.now)
             (resolved.force_at links.now) expr.now)) given.new }
     {

@@ -1,13 +1,13 @@
 use Rattle.std.proofs.Common.{arith, subst, ◌∙◌}
 use Rattle.kern_meaning.specs.declared.value.Value.{Value}
 use Rattle.kern_meaning.specs.Stops.{OrStop}
-use Rattle.kern_meaning.specs.Walks.{Gives}
+use Rattle.kern_meaning.specs.Walks.{WritesValue}
 use Rattle.kern_meaning.proofs.LinkLemmas.{first_counted, other_counted, read_value}
 use Rattle.kern_meaning.proofs.expression.+expressions.Goals as goal
 
 pub value_of-returns-in-Name : goal.value_of-returns-in-Name
 value_of-returns-in-Name t c =
-    subst (λ (meaning : OrStop Value). Gives c.read.result meaning c.read.new.value)
+    subst (λ (meaning : OrStop Value). WritesValue c.read.result meaning c.read.new.value)
     (read_value c.args.walk.now.names.now c.args.walk.now.decls.now c.args.walk.now.i.now c.args.walk.now.j.now c.args.values.now c.requires.same c.args.expr.now c.in-Name.field-0 c.in-Name.is c.args.links.now c.requires.links)
     c.read.ensures
 

@@ -106,7 +106,7 @@ pub act-returns-in_ok-hold-in-Set : goal.act-returns-in_ok-hold-in-Set
 act-returns-in_ok-hold-in-Set t c =
     set_runs c.args.self.now.names.now c.args.self.now.decls.now c.args.act.now c.args.self.now.coincident (known_at_start c.args.self.now.decls.now c.args.self.now.i.now c.args.self.now.j.now) c.in-Set.field-0 c.in-Set.value c.in-Set.is c.args.links.now c.requires.links c.args.number c.args.slot
     c.args.values.now c.assign.new.values c.args.slots.now c.requires.places c.hold.new.held c.in_ok-hold-in-Set.ensures
-    (c.assign.ensures ∙ ap (λ k. assigned c.args.values.now k c.hold.new.held) c.number_at.ensures)
+    (c.assign.ensures ∙ ap (λ k. assigned c.args.values.now k c.hold.new.held) c.assigned_number.ensures)
 
 pub act-past-requires-clause-numbers : goal.act-past-requires-clause-numbers
 act-past-requires-clause-numbers t c =
