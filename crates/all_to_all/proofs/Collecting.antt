@@ -34,6 +34,19 @@ pub map_both : {A B X : Type 0} (f : B → X) (g : A → B) (xs : List A) → ma
 map_both f g [] = refl
 map_both f g (x ∷ xs) = ap (λ ys. f (g x) ∷ ys) (map_both f g xs)
 
+module _ {M : Type 0} (source : M → ℕ) where
+  -- lists without tokens
+  pub none_below : (inboxes : List (Inbox M)) (lists : List (List (Spent M))) → length lists ≡ length inboxes → All (λ list. list ≡ []) lists → EachHasTokens source inboxes 0 lists
+  none_below inboxes lists long empty =
+      let none : (rank : ℕ) → rank < length inboxes → tokens_at lists rank ≡ [] = λ rank within. empty rank [] (omega arith) in
+      record {
+        all = long;
+        each = λ rank within. record {
+          of_inbox = λ i _. All-same (IsSpentOf source i) _ _ (none rank within) (All-nil (IsSpentOf source i));
+          sources = ap (map spent_source) (none rank within);
+        };
+      }
+
 module _ {M : Type 0} (source target : M → ℕ) (has_terms : M → Type 0) where
   -- a post whose tokens were handed over
   abbrev pub without_sent : Post M → PostState M
@@ -64,23 +77,15 @@ module _ {M : Type 0} (source target : M → ℕ) (has_terms : M → Type 0) whe
       ap (λ (p : Post M). p.rank) (was.not_yet index item (omega arith)) ∙ rank_at inboxes before index item are (omega arith)
 
   pub collects_none : (inboxes : List (Inbox M)) (before : List (Post M)) (lists : List (List (Spent M))) → ArePostsOf source target has_terms inboxes before
-      → length lists ≡ length inboxes → All (λ list. list ≡ []) lists → HasCollected inboxes before 0 before lists
-  collects_none inboxes before lists are long empty =
-      let none : (rank : ℕ) → rank < length inboxes → tokens_at lists rank ≡ [] = λ rank within. empty rank [] (omega arith) in
-      record {
-        count = refl;
-        fit = are.each;
-        handed = λ k d early _. absurd (omega arith);
-        not_yet = λ k d _. refl;
-        tokens = record {
-          all = long;
-          each = λ rank within. record {
-            of_inbox = λ i _. All-same (IsSpentOf source i) _ _ (none rank within) (All-nil (IsSpentOf source i));
-            sources = ap (map spent_source) (none rank within);
-          };
-        };
-        carried = λ rank within. ap all_carried (none rank within);
-      }
+      → EachHasTokens source inboxes 0 lists → All (λ list. list ≡ []) lists → HasCollected inboxes before 0 before lists
+  collects_none inboxes before lists are tokens empty = record {
+    count = refl;
+    fit = are.each;
+    handed = λ k d early _. absurd (omega arith);
+    not_yet = λ k d _. refl;
+    tokens = tokens;
+    carried = λ rank within. let all = tokens.all in ap all_carried (empty rank [] (omega arith));
+  }
 
   pub collects_more : (inboxes : List (Inbox M)) (before : List (Post M)) (index : ℕ) (posts : List (Post M)) (lists lists' : List (List (Spent M))) (item after : Post M)
       → HasCollected inboxes before index posts lists → ArePostsOf source target has_terms inboxes before → index < length posts

@@ -70,6 +70,13 @@ impl<M: Named + Drop> Post<M> {
             .settle(rt, &inboxes[self.rank as usize], tokens);
     }
 
+    /// The rank whose post it is.
+    pub fn rank(&self) -> u32
+        ensures { result ≡ (state_of self.now).rank }
+    {
+        self.rank
+    }
+
     /// The ranks from which parcels were taken, in order.
     pub fn sources(&self) -> &[u32]
         requires { KeepsSources M.source self.now }

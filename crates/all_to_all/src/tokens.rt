@@ -25,12 +25,24 @@ pub fn tokens_for<M: Named + Drop>(
     ensures carried { IfOk result (λ lists. map (λ l. all_carried l.items) lists.items
         ≡ map (λ rank. flat_map (sent_for M.target rank) posts.old) (range_with_len 0 (length inboxes.now))) }
 {
+    let mut lists = no_tokens(alloc, inboxes)?;
+    for post in posts.iter_mut() {
+        post.hand_over(alloc, inboxes, &mut lists)?;
+    }
+    Ok(lists)
+}
+
+/// For each rank a list without tokens, to which those of all posts are handed over, by rank.
+pub fn no_tokens<M: Named + Drop>(
+    alloc: Global,
+    inboxes: &[Inbox<M>],
+) -> Result<Vec<Vec<Spent<M>>>, OutOfMemory>
+    ensures tokens { IfOk result (λ lists. EachHasTokens M.source inboxes.now 0 (map (λ l. l.items) lists.items)) }
+    ensures empty { IfOk result (λ lists. All (λ l. l.items ≡ []) lists.items) }
+{
     let mut lists = Vec::with_capacity(alloc, inboxes.len())?;
     for _inbox in inboxes {
         lists.push(Vec::with_capacity(alloc, inboxes.len() - 1)?)?;
-    }
-    for post in posts.iter_mut() {
-        post.hand_over(alloc, inboxes, &mut lists)?;
     }
     Ok(lists)
 }

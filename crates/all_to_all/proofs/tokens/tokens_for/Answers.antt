@@ -11,13 +11,9 @@ pub loop-post-init : goal.loop-post-init
 loop-post-init g c =
     let M : Type 0 = g.row.M.Denot in
     let items : Vec (Spent M) Global → List (Spent M) = λ v. v.items in
-    let lists = c.loop-inbox.lists.items in
-    let done = c.loop-inbox-test.false in
-    let end = c.loop-inbox.auto in
-    let count = c.loop-inbox.invariant.count in
-    let long = length-map lists items in
-    collects_none g.M.Named.source g.M.Named.target g.M.Named.has_terms c.args.inboxes.now c.args.posts.now (map items lists) c.requires.of_inboxes (omega arith)
-    (All-map (λ list. list ≡ []) items lists c.loop-inbox.invariant.empty)
+    let lists = c.in_ok-lists.lists.items in
+    collects_none g.M.Named.source g.M.Named.target g.M.Named.has_terms c.args.inboxes.now c.args.posts.now (map items lists) c.requires.of_inboxes c.in_ok-lists.ensures.tokens
+    (All-map (λ list. list ≡ []) items lists c.in_ok-lists.ensures.empty)
 
 pub hand_over-requires-clause-tokens : goal.hand_over-requires-clause-tokens
 hand_over-requires-clause-tokens g c =

@@ -1,12 +1,6 @@
-use Rattle.std.proofs.Common.{◌≡◌, [], length, map, All}
+use Rattle.std.proofs.Common.{map}
 use Rattle.all_to_all.proofs.Collecting.{HasCollected}
 use Rattle.all_to_all.proofs.tokens.tokens_for.Given as goal
-
-abbrev pub invariant-loop-inbox : goal.invariant-loop-inbox
-invariant-loop-inbox g l = record {
-  count : length l.lists.items ≡ l._inbox-index;
-  empty : All (λ v. v.items ≡ []) l.lists.items;
-}
 
 abbrev pub invariant-loop-post : goal.invariant-loop-post
 invariant-loop-post g l = HasCollected g.M.Named.source g.M.Named.target g.M.Named.has_terms l.inboxes l.fn.posts l.post-index l.posts (map (λ v. v.items) l.lists.items)
