@@ -1,5 +1,8 @@
-// Worked examples of inboxes: tests alone, over the public functions of let_inbox, with parcels of exchange.
+// Worked examples of inboxes: tests alone, over the public functions of let_inbox and all_to_all, with parcels of
+// exchange.
 #![tactic(auto)]
 
+#[cfg(test)]
+mod desks;
 #[cfg(test)]
 mod tests;

@@ -1,6 +1,7 @@
 ghost use Rattle.std.specs.Prelude.{◌≡◌, ℕ, ◌<◌, ◌∷◌, [], map, All};
 ghost use Rattle.let_inbox.specs.Sources.{IsSource, times};
 
+use crate::desks::{desk_of, hand_over_between, open_two, send_both, settle_both};
 use exchange::Parcel;
 use let_inbox::{Inbox, taken};
 use std::test::Fail;
@@ -35,5 +36,33 @@ fn one_parcel_is_taken_once(rt: HostRuntime) -> Result<(), Fail> {
     assert!(rt; inbox.take(&rt, &mut taker).is_none());
     assert_eq!(rt; taken(&taker).first().copied(), Some(0));
     drop(spent);
+    Ok(())
+}
+
+#[test]
+fn two_ranks_send_each_other_one_parcel_in_threads(rt: HostRuntime) -> Result<(), Fail> {
+    let alloc = rt.alloc();
+    let (inboxes, first, second) = open_two::<Parcel>(alloc)?;
+    let to_second = Parcel {
+        src: 0,
+        dst: 1,
+        bodies: Vec::new(alloc),
+    };
+    let to_first = Parcel {
+        src: 1,
+        dst: 0,
+        bodies: Vec::new(alloc),
+    };
+    let first = desk_of(alloc, &inboxes, first, to_second)?;
+    let second = desk_of(alloc, &inboxes, second, to_first)?;
+    let (mut first, mut second) = send_both(&rt, alloc, &inboxes, first, second)?;
+    assert_eq!(rt; first.post.rank(), 0);
+    assert_eq!(rt; second.post.rank(), 1);
+    hand_over_between(alloc, &inboxes, &mut first, &mut second)?;
+    let (first, second) = settle_both(&rt, alloc, &inboxes, first, second)?;
+    assert_eq!(rt; first.post.sources(), [1].as_slice());
+    assert_eq!(rt; second.post.sources(), [0].as_slice());
+    assert_eq!(rt; first.post.parcels().len(), 1);
+    assert_eq!(rt; second.post.into_parcels().pop().map(|p| p.src), Some(0));
     Ok(())
 }
