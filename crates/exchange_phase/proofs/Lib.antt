@@ -1,0 +1,6 @@
+mod Maps
+mod Sent
+mod Leave
+mod Settle
+mod Home
+mod Together

@@ -1,0 +1,4 @@
+pub mod Ranks
+pub mod Packages
+pub mod Leaving
+pub mod Arriving

@@ -1,0 +1,9 @@
+// The exchange of a build, with the ranks in workers: each leaves in one phase, and settles in the next. It stands on
+// the ranks of exchange, the posts of all_to_all and the workers of rank_workers.
+#![tactic(auto)]
+
+mod arriving;
+mod leaving;
+mod phases;
+
+pub use phases::exchanged;
