@@ -1,4 +1,5 @@
-ghost use Rattle.std.specs.Prelude.{◌≡◌, false, ◌<◌, ◌++◌, ◌∷◌, [], List, Some, IfOk, OnOk, flat_map, length, slice_get};
+ghost use Rattle.std.specs.Prelude.{◌≡◌, ◌<◌, ◌++◌, ◌∷◌, [], false, List, Some, IfOk, OnOk};
+ghost use Rattle.std.specs.Prelude.{flat_map, length, slice_get};
 ghost use Rattle.group_lists.specs.Whole.{GroupList};
 ghost use Rattle.force_phase.specs.Finished.{IsFoundIn};
 ghost use Rattle.force_phase.specs.Outcome.{IsWorkFor};

@@ -1,4 +1,4 @@
-ghost use Rattle.std.specs.Prelude.{◌≡◌, ◌<◌, ◌≤◌, ◌++◌, ◌∷◌, [], true, false, List, All, IfOk, OnOk, length, vec_len};
+ghost use Rattle.std.specs.Prelude.{◌≡◌, ◌<◌, ◌≤◌, ◌++◌, ◌∷◌, [], true, false, List, All, IfOk, OnOk, vec_len};
 ghost use Rattle.pf_geom.specs.declared.edge.Edge.{Edge};
 ghost use Rattle.kern_tree.specs.declared.kernel.Kernel.{Kernel};
 ghost use Rattle.group_lists.specs.Whole.{GroupList};

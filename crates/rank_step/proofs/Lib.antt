@@ -5,7 +5,6 @@ pub mod MotionLemmas
 pub mod MoveLemmas
 pub mod NowLemmas
 pub mod OrderLemmas
-pub mod PhaseLemmas
 pub mod FaultLemmas
 pub mod ForceLemmas
 pub mod StepLemmas

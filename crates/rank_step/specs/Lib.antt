@@ -1,5 +1,4 @@
 pub mod Ranks
-pub mod Phases
 pub mod Build
 pub mod Trees
 pub mod Answers

@@ -1,17 +1,10 @@
 -- The particles that each rank has, from build to build.
-use Rattle.std.specs.Prelude.{◌≡◌, ◌%◌, ℕ, List, map, filter, find, unwrap_or, nat_eq, IsPermutation}
+use Rattle.std.specs.Prelude.{◌%◌, ℕ, List, map, filter, find, unwrap_or, nat_eq}
 use Rattle.std.specs.List.{range_with_len, enumerate_from}
 use Rattle.pf_model.specs.Division.{Division, rank_count}
-use Rattle.pf_model.specs.Domains.{particles_of}
 use Rattle.pf_model.specs.Particle.{Particle}
-use Rattle.pf_model.specs.Particles.{by_id}
 use Rattle.exchange.specs.States.{Holding}
-use Rattle.exchange.specs.ExchangeLaws.{particles_held}
-
--- the ranks of the grid, by number, have together these particles, each once
-pub record HaveTogether (g : Division) (js : List Particle) (ranks : List Holding) : Type 0 where
-  pub by_number : map (λ h. h.rank) ranks ≡ range_with_len 0 (rank_count g)
-  pub all : IsPermutation js (particles_held ranks)
+pub use Rattle.exchange_phase.specs.Ranks.{HaveTogether, with_owners}
 
 -- the particles at the places k of a list with k mod count = rank
 abbrev pub dealt_to : ℕ → List Particle → ℕ → List Particle
@@ -21,11 +14,6 @@ dealt_to count js rank = map (λ n. n.1) (filter (λ n. nat_eq (n.0 % count) ran
 abbrev pub first_ranks : Division → List Particle → List Holding
 first_ranks g js =
     map (λ rank. record { rank = rank; bodies = dealt_to (rank_count g) js rank }) (range_with_len 0 (rank_count g))
-
--- the ranks at a build on these particles: each particle is with its owner
-abbrev pub with_owners : Division → List Particle → List Holding
-with_owners g js =
-    map (λ rank. record { rank = rank; bodies = by_id (particles_of g js rank) }) (range_with_len 0 (rank_count g))
 
 -- a particle as it is now: the one with its id
 abbrev pub as_now : List Particle → Particle → Particle

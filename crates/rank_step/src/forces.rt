@@ -14,11 +14,11 @@ ghost use Rattle.rank_step.specs.Taken.{Takes, TakesBy, TakesFrom, taking_fault,
 ghost use Rattle.rank_step.specs.Told.{groups_told};
 
 use crate::build::build;
-use crate::exchanged::exchanged;
 use crate::fault::StepFault;
 use crate::forced::Forced;
 use crate::rank_lists::RankLists;
 use exchange::RankState;
+use exchange_phase::exchanged;
 use force_phase::{Claims, IdRow, forces};
 use kern_types::Typed;
 use multisection::{Domains, make_domains};
@@ -27,6 +27,7 @@ use pf_io::Gate;
 use pf_model::{Body, Grid, MOST_GROUP, Theta, distinct_ids_ignore_order, orders_by_id_are_one};
 use run_model::RankLine;
 use std::alloc::{AllocError, Global};
+use std::sync::Wait;
 use std::thread::Threads;
 
 /// Particles with the forces on them, and what the text tells of each rank, the domains and the ranks at the build, and
@@ -42,7 +43,7 @@ pub(crate) struct Taken {
 
 /// A build on particles by ascending id, which come from the ranks that have them to their owners, and the forces on
 /// them by its lists.
-pub(crate) fn build_and_take<R: Threads + Sync, G: Gate>(
+pub(crate) fn build_and_take<R: Threads + Wait + Sync, G: Gate>(
     rt: &R,
     alloc: Global,
     workers: u32,
@@ -54,6 +55,7 @@ pub(crate) fn build_and_take<R: Threads + Sync, G: Gate>(
     ranks: Vec<RankState>,
     now: &[Body],
 ) -> Result<Taken, StepFault>
+    requires workers { 1 ≤ workers }
     requires particles { AreBodies now.now }
     requires ascending { IsStrictlyIncreasing (map (λ p. p.id) now.now) }
     requires together { HaveTogether grid now.now ranks.items }
@@ -70,7 +72,7 @@ pub(crate) fn build_and_take<R: Threads + Sync, G: Gate>(
 {
     distinct_ids_ignore_order();
     let domains = make_domains(alloc, now, grid)?;
-    let ranks = exchanged(alloc, ranks, now, &domains, grid)?;
+    let ranks = exchanged(rt, alloc, workers, gate, ranks, now, &domains, grid)?;
     let built = build(rt, alloc, now, &ranks, &domains, grid, theta, group)?;
     let (bodies, claims) = with_forces(rt, alloc, workers, gate, t, theta.edge, &built, now)?;
     Ok(Taken {

@@ -1,24 +1,20 @@
 // The steps of a run: a world of all particles and of the ranks that have them, and the world after the next
-// step. It stands on the ranks of exchange, the lists of group_lists over the trees of essential_tree, the forces
+// step. It stands on the ranks of exchange and its phases, the lists of group_lists over the trees of essential_tree, the forces
 // of force_phase and the moves of leapfrog.
 #![tactic(auto)]
 
 mod build;
 mod counts;
-mod exchanged;
 mod fault;
 mod first_ranks;
 mod forced;
 mod forces;
 mod gathering;
 mod held_now;
-mod inbox;
-mod leaving;
 mod motion;
 mod moves;
 mod rank_gather;
 mod rank_lists;
-mod settling;
 mod told;
 mod trees;
 mod world;

@@ -26,6 +26,7 @@ use pf_num::OutOfMemory;
 use run_model::{Row, StepText};
 use std::alloc::{AllocError, Global};
 use std::marker::Model;
+use std::sync::Wait;
 use std::thread::Threads;
 
 /// What a run begins with, beside its kernel.
@@ -125,9 +126,9 @@ impl World {
     }
 
     /// The next step, from 0: the world after it, and what it tells. `Numeric` and `Lists` exactly where
-    /// that is its first fault. After a refusal the world is gone. For now the workers serve the forces alone: there
-    /// each passes the gate, then claims groups.
-    pub fn step<R: Threads + Sync, G: Gate>(
+    /// that is its first fault. After a refusal the world is gone. Workers drive the ranks of the
+    /// exchange, and then claim groups; each passes the gate at the start of each of these phases.
+    pub fn step<R: Threads + Wait + Sync, G: Gate>(
         self,
         rt: &R,
         alloc: Global,
@@ -147,7 +148,7 @@ impl World {
     }
 
     // The particles after the next step, with the forces on them.
-    fn taken<R: Threads + Sync, G: Gate>(
+    fn taken<R: Threads + Wait + Sync, G: Gate>(
         &self,
         rt: &R,
         alloc: Global,
@@ -172,7 +173,7 @@ impl World {
     }
 
     // Step 0: a build, and the forces.
-    fn first<R: Threads + Sync, G: Gate>(
+    fn first<R: Threads + Wait + Sync, G: Gate>(
         &self,
         rt: &R,
         alloc: Global,
@@ -195,7 +196,7 @@ impl World {
     }
 
     // A step past 0: half a kick, a drift, a build, the forces, and half a kick.
-    fn next<R: Threads + Sync, G: Gate>(
+    fn next<R: Threads + Wait + Sync, G: Gate>(
         &self,
         rt: &R,
         alloc: Global,
@@ -221,7 +222,7 @@ impl World {
     }
 
     // A build on the particles where they are now, and the forces on them.
-    fn build<R: Threads + Sync, G: Gate>(
+    fn build<R: Threads + Wait + Sync, G: Gate>(
         &self,
         rt: &R,
         alloc: Global,

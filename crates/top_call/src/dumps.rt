@@ -23,6 +23,7 @@ use rank_step::{StepFault, World};
 use run_model::{Fault, states_stand_before_the_end};
 use std::alloc::Global;
 use std::marker::{Brand, Model, PhantomData};
+use std::sync::Wait;
 use std::thread::Threads;
 
 /// A run, which contracts alone read.
@@ -60,7 +61,7 @@ impl<U: Run> Model for Dumps<U> {
 
 impl<U: Run> Dumps<U> {
     // The text of the next step, or how the run ends.
-    fn next<R: Threads + Sync, G: Gate>(
+    fn next<R: Threads + Wait + Sync, G: Gate>(
         &mut self,
         workers: &Workers<'_, R, G>,
         alloc: Global,
@@ -89,7 +90,7 @@ impl<U: Run> Dumps<U> {
 }
 
 /// Writes the dumps of a run to the deck's output.
-pub(crate) fn write_dumps<U: Run, R: Threads + Sync, S: Store, G: Gate>(
+pub(crate) fn write_dumps<U: Run, R: Threads + Wait + Sync, S: Store, G: Gate>(
     workers: &Workers<'_, R, G>,
     alloc: Global,
     store: &mut S,
@@ -120,7 +121,7 @@ pub(crate) fn write_dumps<U: Run, R: Threads + Sync, S: Store, G: Gate>(
 }
 
 // Creates the output, and writes each dump to it as it comes.
-fn write<U: Run, R: Threads + Sync, S: Store, G: Gate>(
+fn write<U: Run, R: Threads + Wait + Sync, S: Store, G: Gate>(
     workers: &Workers<'_, R, G>,
     alloc: Global,
     store: &mut S,
@@ -142,7 +143,7 @@ fn write<U: Run, R: Threads + Sync, S: Store, G: Gate>(
 }
 
 // Appends each dump to the sink as it comes.
-fn append<U: Run, R: Threads + Sync, S: Store, G: Gate>(
+fn append<U: Run, R: Threads + Wait + Sync, S: Store, G: Gate>(
     workers: &Workers<'_, R, G>,
     alloc: Global,
     store: &mut S,

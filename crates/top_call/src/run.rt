@@ -15,10 +15,11 @@ use kern_types::Typed;
 use pf_io::{Gate, Store};
 use std::alloc::Global;
 use std::marker::Brand;
+use std::sync::Wait;
 use std::thread::Threads;
 
 /// Carries out the run of the deck in the file of this name: reads what it names, and writes the dumps.
-pub(crate) fn run<R: Threads + Sync, S: Store, G: Gate>(
+pub(crate) fn run<R: Threads + Wait + Sync, S: Store, G: Gate>(
     workers: &Workers<'_, R, G>,
     alloc: Global,
     store: &mut S,
@@ -36,7 +37,7 @@ pub(crate) fn run<R: Threads + Sync, S: Store, G: Gate>(
     }
 }
 
-fn with_deck<R: Threads + Sync, S: Store, G: Gate>(
+fn with_deck<R: Threads + Wait + Sync, S: Store, G: Gate>(
     workers: &Workers<'_, R, G>,
     alloc: Global,
     store: &mut S,
@@ -55,7 +56,7 @@ fn with_deck<R: Threads + Sync, S: Store, G: Gate>(
     }
 }
 
-fn with_built_deck<R: Threads + Sync, S: Store, G: Gate>(
+fn with_built_deck<R: Threads + Wait + Sync, S: Store, G: Gate>(
     workers: &Workers<'_, R, G>,
     alloc: Global,
     store: &mut S,
@@ -75,7 +76,7 @@ fn with_built_deck<R: Threads + Sync, S: Store, G: Gate>(
     }
 }
 
-fn with_kernel<R: Threads + Sync, S: Store, G: Gate>(
+fn with_kernel<R: Threads + Wait + Sync, S: Store, G: Gate>(
     workers: &Workers<'_, R, G>,
     alloc: Global,
     store: &mut S,

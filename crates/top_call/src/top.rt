@@ -18,11 +18,12 @@ use pf_io::{Gate, Store, StoreErr};
 use pf_num::OutOfMemory;
 use std::alloc::Global;
 use std::convert::AsStr;
+use std::sync::Wait;
 use std::thread::Threads;
 
 /// Runs the command that the words after the program's name ask for. Its files are those of the store, and each
 /// worker calls the gate as a phase of a step begins. What ended it otherwise than done is said in one line.
-pub fn fdps<R: Threads + Sync, W: AsStr, S: Store, G: Gate>(
+pub fn fdps<R: Threads + Wait + Sync, W: AsStr, S: Store, G: Gate>(
     rt: &R,
     alloc: Global,
     words: &[W],
@@ -43,7 +44,7 @@ pub fn fdps<R: Threads + Sync, W: AsStr, S: Store, G: Gate>(
 }
 
 // Carries out what the words ask for, without its line.
-fn carry_out<R: Threads + Sync, W: AsStr, S: Store, G: Gate>(
+fn carry_out<R: Threads + Wait + Sync, W: AsStr, S: Store, G: Gate>(
     rt: &R,
     alloc: Global,
     words: &[W],

@@ -15,6 +15,7 @@ use pf_io::Gate;
 use pf_num::OutOfMemory;
 use rank_step::{StepFault, World, WorldSetup};
 use std::alloc::Global;
+use std::sync::Wait;
 use std::thread::Threads;
 
 /// The world of particles as they were read.
@@ -41,7 +42,7 @@ pub(crate) fn world_of(
 }
 
 /// The world after its next step, with the text of that step.
-pub(crate) fn stepped<R: Threads + Sync, G: Gate>(
+pub(crate) fn stepped<R: Threads + Wait + Sync, G: Gate>(
     workers: &Workers<'_, R, G>,
     alloc: Global,
     world: World,

@@ -4,6 +4,7 @@ ghost use Rattle.command_frame.specs.Status.{HasRoom};
 use pf_io::{MemFile, MemStore, Open};
 use std::alloc::Global;
 use std::process::Abort;
+use std::sync::Wait;
 use std::test::Fail;
 use std::thread::Threads;
 use top_call::{Status, code, fdps};
@@ -58,7 +59,7 @@ pub(crate) fn store_of(
 
 /// What `run d` leaves of such a store.
 pub(crate) fn run(
-    rt: &(impl Threads + Sync + AllocGlobal),
+    rt: &(impl Threads + Wait + Sync + AllocGlobal),
     inputs: Inputs<'_>,
     fails: &[u64],
     most: usize,
@@ -77,7 +78,7 @@ fn text(bytes: &[u8]) -> Result<&str, Fail> {
 
 /// That the run is done, wrote these dumps and said nothing.
 pub(crate) fn writes(
-    rt: &(impl Threads + Sync + Abort + AllocGlobal),
+    rt: &(impl Threads + Wait + Sync + Abort + AllocGlobal),
     inputs: Inputs<'_>,
     dumps: &str,
 ) -> Result<(), Fail> {
@@ -90,7 +91,7 @@ pub(crate) fn writes(
 
 /// That a step of the run has a fault that this line names, after these dumps.
 pub(crate) fn stops(
-    rt: &(impl Threads + Sync + Abort + AllocGlobal),
+    rt: &(impl Threads + Wait + Sync + Abort + AllocGlobal),
     inputs: Inputs<'_>,
     line: &str,
     dumps: &str,
@@ -104,7 +105,7 @@ pub(crate) fn stops(
 
 /// That an input is refused with this line, and no output created.
 pub(crate) fn refuses(
-    rt: &(impl Threads + Sync + Abort + AllocGlobal),
+    rt: &(impl Threads + Wait + Sync + Abort + AllocGlobal),
     inputs: Inputs<'_>,
     line: &str,
 ) -> Result<(), Fail> {
