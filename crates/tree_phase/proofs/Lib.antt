@@ -1,0 +1,8 @@
+pub mod CountLemmas
+pub mod OtherLemmas
+pub mod RisingLemmas
+pub mod ParcelLemmas
+pub mod PhaseLemmas
+pub mod SendLemmas
+pub mod TotalLemmas
+pub mod ZipLemmas

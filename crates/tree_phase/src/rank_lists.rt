@@ -1,0 +1,17 @@
+use group_lists::{HasLists, Lists};
+use run_model::RankLine;
+
+/// The lists of a rank's groups, and what the text of a step tells of the rank.
+#[derive(Drop)]
+pub struct RankLists {
+    pub lists: Lists,
+    pub line: RankLine,
+}
+
+impl HasLists for RankLists {
+    ghost has = { λ r. r.lists };
+
+    fn lists(&self) -> &Lists {
+        &self.lists
+    }
+}
