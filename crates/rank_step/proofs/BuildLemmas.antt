@@ -37,10 +37,12 @@ use Rattle.run_model.specs.Run.{as_built, list_for, entry_count, lists_fault}
 use Rattle.run_model.specs.Run as stop
 use Rattle.run_model.specs.Text.{cells_in, particles_within, lists_of, ranks, rank_counts}
 use Rattle.run_model.specs.Text as texts
-use Rattle.rank_step.specs.declared.rank_lists.RankLists.{RankLists}
-use Rattle.rank_step.specs.Build.{BuildsBy, AreListsOf, AreGroupsOf, all_entries}
+use Rattle.tree_phase.specs.declared.rank_lists.RankLists.{RankLists}
+use Rattle.tree_phase.specs.Counts.{all_entries}
+use Rattle.rank_step.specs.Build.{BuildsBy, AreListsOf}
 use Rattle.rank_step.specs.Ranks.{as_now}
-use Rattle.rank_step.specs.Trees.{received_by, HasGathered, HaveGathered, IsFinished, AreFinished}
+use Rattle.tree_phase.specs.Trees.{AreGroupsOf, received_by, HasGathered, HaveGathered, IsFinished}
+use Rattle.rank_step.specs.Trees.{AreFinished}
 use Rattle.rank_step.proofs.DealLemmas.{dealt_out}
 use Rattle.rank_step.proofs.NowLemmas.{all_now}
 use Rattle.rank_step.proofs.OrderLemmas.{ascend, distinct-ascending}

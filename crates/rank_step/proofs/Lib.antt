@@ -1,5 +1,4 @@
 pub mod BuildLemmas
-pub mod CountLemmas
 pub mod DealLemmas
 pub mod MotionLemmas
 pub mod MoveLemmas
@@ -8,6 +7,6 @@ pub mod OrderLemmas
 pub mod FaultLemmas
 pub mod ForceLemmas
 pub mod StepLemmas
-pub mod TotalLemmas
 pub mod TreeLemmas
 pub mod GatheredLemmas
+pub mod ClaimLemmas

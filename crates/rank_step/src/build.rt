@@ -1,4 +1,4 @@
-ghost use Rattle.std.specs.Prelude.{◌≡◌, ◌<◌, ◌≤◌, None, OnOk, IfOk, IfErr, All, flat_map, length, map, sum_by};
+ghost use Rattle.std.specs.Prelude.{◌≡◌, ◌≤◌, None, OnOk, IfOk, IfErr, All, flat_map, length, map, sum_by};
 ghost use Rattle.std.specs.List.Sorted.{IsStrictlyIncreasing};
 ghost use Rattle.pf_model.specs.Particles.{AreBodies};
 ghost use Rattle.group_lists.specs.Gathering.{IsWhole, gathered_count};
@@ -8,32 +8,32 @@ ghost use Rattle.run_model.specs.Run.{lists_fault};
 ghost use Rattle.run_model.specs.Text.{ranks as all_ranks, rank_counts};
 ghost use Rattle.rank_step.specs.Build.{BuildsBy, AreListsOf, IsTooMany};
 ghost use Rattle.rank_step.specs.Ranks.{with_owners};
-ghost use Rattle.rank_step.specs.Trees.{HaveGathered, AreFinished};
+ghost use Rattle.rank_step.specs.Trees.{AreFinished};
+ghost use Rattle.tree_phase.specs.Trees.{HaveGathered};
 
 use crate::fault::StepFault;
-use crate::gathering::gather_all;
-use crate::rank_gather::RankGather;
-use crate::rank_lists::RankLists;
-use crate::trees::trees_of;
 use exchange::RankState;
 use group_lists::MOST_ENTRIES;
 use multisection::Domains;
+use pf_io::Gate;
 use pf_model::{
-    Body, Build, Grid, MOST_GROUP, MOST_RANKS, Steps, Terms, Theta, all_ranks_have_all,
+    Body, Build, Grid, MOST_GROUP, MOST_RANKS, Terms, Theta, all_ranks_have_all,
     boxes_ignore_order, groups_ignore_order, kept_lists_begin_as_lists, owners_are_ranks,
-    some_have_distinct_ids,
 };
 use pf_num::OutOfMemory;
 use std::alloc::Global;
 use std::marker::Brand;
-use std::sync::ledger::{Blank, Ledger};
+use std::sync::Wait;
 use std::thread::Threads;
+use tree_phase::{RankGather, RankLists, gather_all};
 
 /// The groups of particles by ascending id, each of which is with its owner, with their lists, rank by rank, and what
 /// the text tells of each rank, unless all lists have more entries than the limit.
-pub(crate) fn build<R: Threads + Sync>(
+pub(crate) fn build<R: Threads + Wait + Sync, G: Gate>(
     rt: &R,
     alloc: Global,
+    workers: u32,
+    gate: &G,
     bodies: &[Body],
     ranks: &[RankState],
     domains: &Domains,
@@ -41,6 +41,7 @@ pub(crate) fn build<R: Threads + Sync>(
     theta: Theta,
     limit: u32,
 ) -> Result<Vec<RankLists>, StepFault>
+    requires workers { 1 ≤ workers }
     requires bodies { AreBodies bodies.now }
     requires ascending { IsStrictlyIncreasing (map (λ p. p.id) bodies.now) }
     requires owners { ranks.now ≡ with_owners grid bodies.now }
@@ -55,28 +56,27 @@ pub(crate) fn build<R: Threads + Sync>(
     ensures fault { (u : Setup) → BuildsBy grid theta limit u → IfErr result (IsTooMany u bodies.now) }
 {
     let build = Build::of(bodies, grid, theta);
-    build_by::<R, Brand, Brand>(rt, alloc, build, ranks, domains, limit, Blank::new(1))
+    build_by::<R, Brand, G>(rt, alloc, workers, gate, build, ranks, domains, limit)
 }
 
 // The same, in the terms of the build.
-fn build_by<R: Threads + Sync, T: Terms, L: Ledger>(
+fn build_by<R: Threads + Wait + Sync, T: Terms + Send + Sync, G: Gate>(
     rt: &R,
     alloc: Global,
+    workers: u32,
+    gate: &G,
     build: Build<'_>,
     ranks: &[RankState],
     domains: &Domains,
     limit: u32,
-    blank: Blank,
 ) -> Result<Vec<RankLists>, StepFault>
+    requires workers { 1 ≤ workers }
     requires theta { T.theta ≡ build.theta }
     requires ascending { IsStrictlyIncreasing (map (λ p. p.id) T.particles) }
     requires owners { ranks.now ≡ with_owners T.grid T.particles }
     requires targets { AreTargets T.grid T.particles domains.now }
     requires some { 1 ≤ limit }
     requires most { limit ≤ MOST_GROUP }
-    requires name { blank.name ≡ L.name }
-    requires parts { blank.parts ≡ L.parts }
-    requires share { 0 < L.parts }
     ensures lists { (u : Setup) → BuildsBy T.grid T.theta limit u
         → IfOk result (λ built. AreListsOf u T.particles (flat_map (λ r. r.lists) built.items)) }
     ensures counts { (u : Setup) → BuildsBy T.grid T.theta limit u
@@ -84,35 +84,9 @@ fn build_by<R: Threads + Sync, T: Terms, L: Ledger>(
     ensures few { (u : Setup) → BuildsBy T.grid T.theta limit u → OnOk result (lists_fault u T.particles ≡ None) }
     ensures fault { (u : Setup) → BuildsBy T.grid T.theta limit u → IfErr result (IsTooMany u T.particles) }
 {
-    let gathers = gathered::<R, T, L>(rt, alloc, build.theta, ranks, domains, limit, blank)?;
-    finish(alloc, limit, gathers)
-}
-
-// What each rank gathered from all ranks.
-fn gathered<R: Threads + Sync, T: Terms, L: Ledger>(
-    rt: &R,
-    alloc: Global,
-    t: Theta,
-    ranks: &[RankState],
-    domains: &Domains,
-    limit: u32,
-    blank: Blank,
-) -> Result<Vec<RankGather<T>>, OutOfMemory>
-    requires theta { T.theta ≡ t }
-    requires ascending { IsStrictlyIncreasing (map (λ p. p.id) T.particles) }
-    requires owners { ranks.now ≡ with_owners T.grid T.particles }
-    requires targets { AreTargets T.grid T.particles domains.now }
-    requires some { 1 ≤ limit }
-    requires most { limit ≤ MOST_GROUP }
-    requires name { blank.name ≡ L.name }
-    requires parts { blank.parts ≡ L.parts }
-    requires share { 0 < L.parts }
-    ensures { IfOk result (λ gathers. HaveGathered limit T.grid T.particles gathers.items) }
-{
-    some_have_distinct_ids();
-    let trees = trees_of(rt, alloc, ranks, limit)?;
-    let mut steps = Steps::new(blank);
-    gather_all::<T, L>(alloc, &trees, domains, t, &mut steps)
+    let theta = build.theta;
+    let gathered = gather_all::<R, T, G>(rt, alloc, workers, gate, ranks, domains, theta, limit)?;
+    finish(alloc, limit, gathered.gathers)
 }
 
 // The lists that were gathered from all ranks, unless they have more entries than the limit.

@@ -16,7 +16,6 @@ ghost use Rattle.rank_step.specs.Told.{groups_told};
 use crate::build::build;
 use crate::fault::StepFault;
 use crate::forced::Forced;
-use crate::rank_lists::RankLists;
 use exchange::RankState;
 use exchange_phase::exchanged;
 use force_phase::{Claims, IdRow, forces};
@@ -29,6 +28,7 @@ use run_model::RankLine;
 use std::alloc::{AllocError, Global};
 use std::sync::Wait;
 use std::thread::Threads;
+use tree_phase::RankLists;
 
 /// Particles with the forces on them, and what the text tells of each rank, the domains and the ranks at the build, and
 /// the groups that each worker claimed.
@@ -73,7 +73,9 @@ pub(crate) fn build_and_take<R: Threads + Wait + Sync, G: Gate>(
     distinct_ids_ignore_order();
     let domains = make_domains(alloc, now, grid)?;
     let ranks = exchanged(rt, alloc, workers, gate, ranks, now, &domains, grid)?;
-    let built = build(rt, alloc, now, &ranks, &domains, grid, theta, group)?;
+    let built = build(
+        rt, alloc, workers, gate, now, &ranks, &domains, grid, theta, group,
+    )?;
     let (bodies, claims) = with_forces(rt, alloc, workers, gate, t, theta.edge, &built, now)?;
     Ok(Taken {
         bodies,

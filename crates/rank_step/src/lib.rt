@@ -4,19 +4,14 @@
 #![tactic(auto)]
 
 mod build;
-mod counts;
 mod fault;
 mod first_ranks;
 mod forced;
 mod forces;
-mod gathering;
 mod held_now;
 mod motion;
 mod moves;
-mod rank_gather;
-mod rank_lists;
 mod told;
-mod trees;
 mod world;
 
 pub use fault::StepFault;

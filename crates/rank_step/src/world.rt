@@ -126,8 +126,8 @@ impl World {
     }
 
     /// The next step, from 0: the world after it, and what it tells. `Numeric` and `Lists` exactly where
-    /// that is its first fault. After a refusal the world is gone. Workers drive the ranks of the
-    /// exchange, and then claim groups; each passes the gate at the start of each of these phases.
+    /// that is its first fault. After a refusal the world is gone. Workers drive the ranks, and then
+    /// claim groups; each passes the gate at the start of each phase.
     pub fn step<R: Threads + Wait + Sync, G: Gate>(
         self,
         rt: &R,

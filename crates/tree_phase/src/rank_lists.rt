@@ -1,3 +1,5 @@
+ghost use Rattle.std.specs.Prelude.{◌≡◌, length};
+
 use group_lists::{HasLists, Lists};
 use run_model::RankLine;
 
@@ -6,6 +8,7 @@ use run_model::RankLine;
 pub struct RankLists {
     pub lists: Lists,
     pub line: RankLine,
+    ghost told: { line.groups ≡ length lists },
 }
 
 impl HasLists for RankLists {

@@ -7,7 +7,7 @@ use std::test::Fail;
 use top_call::{code, fdps};
 
 #[test]
-fn two_workers_meet_in_the_forces(rt: HostRuntime) -> Result<(), Fail> {
+fn two_workers_meet_in_each_phase(rt: HostRuntime) -> Result<(), Fail> {
     let alloc = rt.alloc();
     let inputs = Inputs {
         settings: "theta 0/1\ngrid 2x1x1\n",
@@ -19,13 +19,21 @@ fn two_workers_meet_in_the_forces(rt: HostRuntime) -> Result<(), Fail> {
         rank 1 particles 1 groups 1 cells 0 parts 1 listcells 0 listparts 2\n\
         p 1 0 0 0 0 0 0 0 24000 32000 0\n\
         p 2 1 3 4 0 0 0 0 -24000 -32000 0\n";
-    let mut store = store_of(alloc, inputs, &[], WHOLE)?;
-    let gate = Meet::meet_in(Phase::Forces);
-    let words = ["run", "d", "--workers", "2"];
-    let status = fdps(&rt, alloc, &words, &mut store, &gate);
-    assert!(rt; gate.met());
-    assert_eq!(rt; code(&status), 0);
-    assert_eq!(rt; store.contents("o"), Some(dump));
+    for phase in [
+        Phase::Leave,
+        Phase::Settle,
+        Phase::Trees,
+        Phase::Gather,
+        Phase::Forces,
+    ] {
+        let mut store = store_of(alloc, inputs, &[], WHOLE)?;
+        let gate = Meet::meet_in(phase);
+        let words = ["run", "d", "--workers", "2"];
+        let status = fdps(&rt, alloc, &words, &mut store, &gate);
+        assert!(rt; gate.met(), "{phase:?}");
+        assert_eq!(rt; code(&status), 0, "{phase:?}");
+        assert_eq!(rt; store.contents("o"), Some(dump), "{phase:?}");
+    }
     Ok(())
 }
 

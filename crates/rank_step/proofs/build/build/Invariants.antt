@@ -1,10 +1,7 @@
 use Rattle.rank_step.proofs.build.build.Given as goal
 
-abbrev pub ghosts-build_by-L-Ledger : goal.ghosts-build_by-L-Ledger
-ghosts-build_by-L-Ledger g a = record { name = a.blank.name; parts = a.blank.parts }
-
-abbrev pub ghosts-build_by-T-Terms : goal.ghosts-build_by-T-Terms
-ghosts-build_by-T-Terms g a = record {
+abbrev pub ghosts-build_by : goal.ghosts-build_by
+ghosts-build_by g a = record {
   particles = a.build.bodies.now;
   are_bodies = a.build.are_bodies;
   within_limits = a.build.within_limits;

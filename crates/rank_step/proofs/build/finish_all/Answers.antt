@@ -4,7 +4,7 @@ use Rattle.std.proofs.lemmas.Iterator.Consumers.{YieldsList-turn, YieldsList-end
 use Rattle.std.proofs.lemmas.List.{get_or_default, length_push}
 use Rattle.group_lists.specs.declared.gather.TheConstants.{MOST_ENTRIES}
 use Rattle.group_lists.specs.Gathering.{Gathering, IsWhole, gathered_count}
-use Rattle.rank_step.specs.Trees.{IsFinished}
+use Rattle.tree_phase.specs.Trees.{IsFinished}
 use Rattle.rank_step.proofs.TreeLemmas.{each_of_none, each_pushed, long_pushed}
 use Rattle.rank_step.proofs.build.finish_all.Goals as goal
 

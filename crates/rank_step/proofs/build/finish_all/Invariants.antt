@@ -1,6 +1,6 @@
 use Rattle.std.proofs.Common.{◌≡◌, length, get_or}
 use Rattle.group_lists.specs.Gathering.{Gathering}
-use Rattle.rank_step.specs.Trees.{EachByRank, IsFinished}
+use Rattle.tree_phase.specs.Trees.{EachByRank, IsFinished}
 use Rattle.rank_step.proofs.build.finish_all.Given as goal
 
 abbrev pub invariant-loop-gather : goal.invariant-loop-gather

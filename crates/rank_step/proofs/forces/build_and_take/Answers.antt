@@ -8,11 +8,11 @@ use Rattle.group_lists.specs.Whole.{GroupList}
 use Rattle.force_phase.specs.Claims.{HaveAllGroups}
 use Rattle.force_phase.specs.Phase.{bodies_in}
 use Rattle.multisection.specs.Regions.{regions_of}
-use Rattle.rank_step.specs.declared.rank_lists.RankLists.{RankLists}
+use Rattle.tree_phase.specs.declared.rank_lists.RankLists.{RankLists}
 use Rattle.rank_step.specs.Build.{AreListsOf}
 use Rattle.rank_step.specs.Ranks.{with_owners}
 use Rattle.rank_step.specs.Told.{groups_told}
-use Rattle.rank_step.proofs.CountLemmas.{groups_counted}
+use Rattle.rank_step.proofs.ClaimLemmas.{groups_counted}
 use Rattle.rank_step.proofs.StepLemmas.{run_by, lists_have_bodies, stops_first, stops_later, none_of_both, too_many_stops, takes_from}
 use Rattle.rank_step.proofs.forces.build_and_take.Goals as goal
 

@@ -1,6 +1,6 @@
 use Rattle.std.proofs.Common.{◌∙◌}
 use Rattle.std.specs.List.{flat_map}
-use Rattle.rank_step.specs.declared.rank_lists.RankLists.{RankLists}
+use Rattle.tree_phase.specs.declared.rank_lists.RankLists.{RankLists}
 use Rattle.std.proofs.lemmas.Result.{err_from_is_err_and}
 use Rattle.rank_step.proofs.OrderLemmas.{ascend}
 use Rattle.rank_step.proofs.ForceLemmas.{TakesFrom_forces, TakesFrom_no_fault, TakesFrom_fault}
