@@ -9,7 +9,8 @@ ghost use Rattle.run_model.specs.Text.{ranks as all_ranks, rank_counts};
 ghost use Rattle.rank_step.specs.Build.{BuildsBy, AreListsOf, IsTooMany};
 ghost use Rattle.rank_step.specs.Ranks.{with_owners};
 ghost use Rattle.rank_step.specs.Trees.{AreFinished};
-ghost use Rattle.tree_phase.specs.Trees.{HaveGathered};
+ghost use Rattle.tree_phase.specs.Trees.{AreArrivals, HaveGathered};
+ghost use Rattle.pf_model.specs.Division.{rank_count};
 
 use crate::fault::StepFault;
 use exchange::RankState;
@@ -25,10 +26,11 @@ use std::alloc::Global;
 use std::marker::Brand;
 use std::sync::Wait;
 use std::thread::Threads;
-use tree_phase::{RankGather, RankLists, gather_all};
+use tree_phase::{Arrivals, Gathered, RankGather, RankLists, gather_all};
 
 /// The groups of particles by ascending id, each of which is with its owner, with their lists, rank by rank, and what
-/// the text tells of each rank, unless all lists have more entries than the limit.
+/// the text tells of each rank, and in which order essential trees came, unless all lists have more entries than the
+/// limit.
 pub(crate) fn build<R: Threads + Wait + Sync, G: Gate>(
     rt: &R,
     alloc: Global,
@@ -40,7 +42,7 @@ pub(crate) fn build<R: Threads + Wait + Sync, G: Gate>(
     grid: Grid,
     theta: Theta,
     limit: u32,
-) -> Result<Vec<RankLists>, StepFault>
+) -> Result<(Vec<RankLists>, Vec<Arrivals>), StepFault>
     requires workers { 1 ≤ workers }
     requires bodies { AreBodies bodies.now }
     requires ascending { IsStrictlyIncreasing (map (λ p. p.id) bodies.now) }
@@ -49,9 +51,10 @@ pub(crate) fn build<R: Threads + Wait + Sync, G: Gate>(
     requires some { 1 ≤ limit }
     requires most { limit ≤ MOST_GROUP }
     ensures lists { (u : Setup) → BuildsBy grid theta limit u
-        → IfOk result (λ built. AreListsOf u bodies.now (flat_map (λ r. r.lists) built.items)) }
+        → IfOk result (λ built. AreListsOf u bodies.now (flat_map (λ r. r.lists) built.0.items)) }
     ensures counts { (u : Setup) → BuildsBy grid theta limit u
-        → IfOk result (λ built. map (λ r. r.line) built.items ≡ map (rank_counts u bodies.now) (all_ranks u)) }
+        → IfOk result (λ built. map (λ r. r.line) built.0.items ≡ map (rank_counts u bodies.now) (all_ranks u)) }
+    ensures arrivals { IfOk result (λ built. AreArrivals (rank_count grid) built.1.items) }
     ensures few { (u : Setup) → BuildsBy grid theta limit u → OnOk result (lists_fault u bodies.now ≡ None) }
     ensures fault { (u : Setup) → BuildsBy grid theta limit u → IfErr result (IsTooMany u bodies.now) }
 {
@@ -69,7 +72,7 @@ fn build_by<R: Threads + Wait + Sync, T: Terms + Send + Sync, G: Gate>(
     ranks: &[RankState],
     domains: &Domains,
     limit: u32,
-) -> Result<Vec<RankLists>, StepFault>
+) -> Result<(Vec<RankLists>, Vec<Arrivals>), StepFault>
     requires workers { 1 ≤ workers }
     requires theta { T.theta ≡ build.theta }
     requires ascending { IsStrictlyIncreasing (map (λ p. p.id) T.particles) }
@@ -78,15 +81,18 @@ fn build_by<R: Threads + Wait + Sync, T: Terms + Send + Sync, G: Gate>(
     requires some { 1 ≤ limit }
     requires most { limit ≤ MOST_GROUP }
     ensures lists { (u : Setup) → BuildsBy T.grid T.theta limit u
-        → IfOk result (λ built. AreListsOf u T.particles (flat_map (λ r. r.lists) built.items)) }
+        → IfOk result (λ built. AreListsOf u T.particles (flat_map (λ r. r.lists) built.0.items)) }
     ensures counts { (u : Setup) → BuildsBy T.grid T.theta limit u
-        → IfOk result (λ built. map (λ r. r.line) built.items ≡ map (rank_counts u T.particles) (all_ranks u)) }
+        → IfOk result (λ built. map (λ r. r.line) built.0.items ≡ map (rank_counts u T.particles) (all_ranks u)) }
+    ensures arrivals { IfOk result (λ built. AreArrivals (rank_count T.grid) built.1.items) }
     ensures few { (u : Setup) → BuildsBy T.grid T.theta limit u → OnOk result (lists_fault u T.particles ≡ None) }
     ensures fault { (u : Setup) → BuildsBy T.grid T.theta limit u → IfErr result (IsTooMany u T.particles) }
 {
     let theta = build.theta;
-    let gathered = gather_all::<R, T, G>(rt, alloc, workers, gate, ranks, domains, theta, limit)?;
-    finish(alloc, limit, gathered.gathers)
+    let Gathered { gathers, arrivals } = gather_all::<R, T, G>(
+        rt, alloc, workers, gate, ranks, domains, theta, limit,
+    )?;
+    Ok((finish(alloc, limit, gathers)?, arrivals))
 }
 
 // The lists that were gathered from all ranks, unless they have more entries than the limit.

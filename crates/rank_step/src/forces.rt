@@ -2,6 +2,8 @@ ghost use Rattle.std.specs.Prelude.{◌≡◌, ◌≤◌, None, OnOk, IfOk, IfEr
 ghost use Rattle.std.specs.List.{zip};
 ghost use Rattle.std.specs.List.Sorted.{IsStrictlyIncreasing};
 ghost use Rattle.pf_model.specs.Particles.{AreBodies};
+ghost use Rattle.pf_model.specs.Division.{rank_count};
+ghost use Rattle.tree_phase.specs.Trees.{AreArrivals};
 ghost use Rattle.force_phase.specs.Claims.{HaveAllGroups};
 ghost use Rattle.force_phase.specs.Phase.{bodies_in};
 ghost use Rattle.run_model.specs.Setup.{Setup};
@@ -28,16 +30,17 @@ use run_model::RankLine;
 use std::alloc::{AllocError, Global};
 use std::sync::Wait;
 use std::thread::Threads;
-use tree_phase::RankLists;
+use tree_phase::{Arrivals, RankLists};
 
-/// Particles with the forces on them, and what the text tells of each rank, the domains and the ranks at the build, and
-/// the groups that each worker claimed.
+/// Particles with the forces on them, and what the text tells of each rank, the domains and the ranks at the build, in
+/// which order essential trees came, and the groups that each worker claimed.
 #[derive(Drop)]
 pub(crate) struct Taken {
     pub(crate) bodies: Vec<Forced>,
     pub(crate) counts: Vec<RankLine>,
     pub(crate) domains: Domains,
     pub(crate) ranks: Vec<RankState>,
+    pub(crate) arrivals: Vec<Arrivals>,
     pub(crate) claims: Vec<Claims>,
 }
 
@@ -55,7 +58,6 @@ pub(crate) fn build_and_take<R: Threads + Wait + Sync, G: Gate>(
     ranks: Vec<RankState>,
     now: &[Body],
 ) -> Result<Taken, StepFault>
-    requires workers { 1 ≤ workers }
     requires particles { AreBodies now.now }
     requires ascending { IsStrictlyIncreasing (map (λ p. p.id) now.now) }
     requires together { HaveTogether grid now.now ranks.items }
@@ -66,6 +68,7 @@ pub(crate) fn build_and_take<R: Threads + Wait + Sync, G: Gate>(
     ensures taken { (u : Setup) → TakesBy t.now grid theta group u → IfOk result (λ taken.
         Takes u now.now taken.bodies.items taken.counts.items taken.domains taken.ranks.items) }
     ensures together { IfOk result (λ taken. HaveTogether grid now.now taken.ranks.items) }
+    ensures arrivals { IfOk result (λ taken. AreArrivals (rank_count grid) taken.arrivals.items) }
     ensures claims { IfOk result (λ taken.
         HaveAllGroups workers (groups_told taken.counts.items) taken.claims.items) }
     ensures fault { (u : Setup) → TakesBy t.now grid theta group u → IfErr result (StopsAt (taking_fault u now.now)) }
@@ -73,7 +76,7 @@ pub(crate) fn build_and_take<R: Threads + Wait + Sync, G: Gate>(
     distinct_ids_ignore_order();
     let domains = make_domains(alloc, now, grid)?;
     let ranks = exchanged(rt, alloc, workers, gate, ranks, now, &domains, grid)?;
-    let built = build(
+    let (built, arrivals) = build(
         rt, alloc, workers, gate, now, &ranks, &domains, grid, theta, group,
     )?;
     let (bodies, claims) = with_forces(rt, alloc, workers, gate, t, theta.edge, &built, now)?;
@@ -82,6 +85,7 @@ pub(crate) fn build_and_take<R: Threads + Wait + Sync, G: Gate>(
         counts: lines_of(alloc, &built)?,
         domains,
         ranks,
+        arrivals,
         claims,
     })
 }

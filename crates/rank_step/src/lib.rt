@@ -1,6 +1,6 @@
 // The steps of a run: a world of all particles and of the ranks that have them, and the world after the next
-// step. It stands on the ranks of exchange and its phases, the lists of group_lists over the trees of essential_tree, the forces
-// of force_phase and the moves of leapfrog.
+// step. It stands on the exchange of exchange_phase, the trees and lists of tree_phase, the forces of force_phase and the
+// moves of leapfrog.
 #![tactic(auto)]
 
 mod build;

@@ -6,6 +6,8 @@ ghost use Rattle.rank_step.specs.World.{IsSound, StandsFor, Steps};
 ghost use Rattle.rank_step.specs.Ranks.{HaveTogether};
 ghost use Rattle.rank_step.specs.Taken.{Takes, TakesBy, taking_fault, without_forces};
 ghost use Rattle.force_phase.specs.Claims.{HaveAllGroups};
+ghost use Rattle.pf_model.specs.Division.{rank_count};
+ghost use Rattle.tree_phase.specs.Trees.{AreArrivals};
 ghost use Rattle.rank_step.specs.Told.{Reaches, groups_told};
 ghost use Rattle.rank_step.specs.Answers.{StopsAt, StopsBy};
 
@@ -28,6 +30,7 @@ use std::alloc::{AllocError, Global};
 use std::marker::Model;
 use std::sync::Wait;
 use std::thread::Threads;
+use tree_phase::Arrivals;
 
 /// What a run begins with, beside its kernel.
 #[derive(Drop)]
@@ -48,6 +51,8 @@ pub struct WorldSetup {
 #[derive(Drop)]
 pub struct StepReport {
     pub text: StepText,
+    /// For each rank the sources in the order in which their essential trees came.
+    pub arrivals: Vec<Arrivals>,
     /// The groups whose forces each worker found. They are numbered over the ranks.
     pub claims: Vec<Claims>,
 }
@@ -139,6 +144,7 @@ impl World {
         requires some_workers { 1 ≤ workers }
         requires most_workers { workers ≤ 64 }
         ensures ok { IfOk result (λ r. (u : Setup) → StandsFor self u → Steps u self.due r.0 r.1.text) }
+        ensures arrivals { IfOk result (λ r. AreArrivals (rank_count self.grid) r.1.arrivals.items) }
         ensures claims { IfOk result (λ r.
             HaveAllGroups workers (groups_told r.1.text.ranks) r.1.claims.items) }
         ensures fault { IfErr result (λ f. (u : Setup) → StandsFor self u → StopsBy u self.due f) }
@@ -161,6 +167,7 @@ impl World {
             IsSound self.now.grid self.now.group taken.bodies.items taken.ranks.items) }
         ensures ok { (u : Setup) → StandsFor self.now u → IfOk result (λ taken.
             Reaches u self.now.due taken.bodies.items taken.counts.items taken.domains taken.ranks.items) }
+        ensures arrivals { IfOk result (λ taken. AreArrivals (rank_count self.now.grid) taken.arrivals.items) }
         ensures claims { IfOk result (λ taken.
             HaveAllGroups workers (groups_told taken.counts.items) taken.claims.items) }
         ensures fault { (u : Setup) → StandsFor self.now u → IfErr result (StopsBy u self.now.due) }
@@ -187,6 +194,7 @@ impl World {
             IsSound self.now.grid self.now.group taken.bodies.items taken.ranks.items) }
         ensures ok { (u : Setup) → StandsFor self.now u → IfOk result (λ taken.
             Reaches u 0 taken.bodies.items taken.counts.items taken.domains taken.ranks.items) }
+        ensures arrivals { IfOk result (λ taken. AreArrivals (rank_count self.now.grid) taken.arrivals.items) }
         ensures claims { IfOk result (λ taken.
             HaveAllGroups workers (groups_told taken.counts.items) taken.claims.items) }
         ensures fault { (u : Setup) → StandsFor self.now u → IfErr result (StopsBy u 0) }
@@ -210,6 +218,7 @@ impl World {
             IsSound self.now.grid self.now.group taken.bodies.items taken.ranks.items) }
         ensures ok { (u : Setup) → StandsFor self.now u → IfOk result (λ taken.
             Reaches u self.now.due taken.bodies.items taken.counts.items taken.domains taken.ranks.items) }
+        ensures arrivals { IfOk result (λ taken. AreArrivals (rank_count self.now.grid) taken.arrivals.items) }
         ensures claims { IfOk result (λ taken.
             HaveAllGroups workers (groups_told taken.counts.items) taken.claims.items) }
         ensures fault { (u : Setup) → StandsFor self.now u → IfErr result (StopsBy u self.now.due) }
@@ -237,6 +246,7 @@ impl World {
             → IfOk result (λ taken.
             Takes u now.now taken.bodies.items taken.counts.items taken.domains taken.ranks.items) }
         ensures together { IfOk result (λ taken. HaveTogether self.now.grid now.now taken.ranks.items) }
+        ensures arrivals { IfOk result (λ taken. AreArrivals (rank_count self.now.grid) taken.arrivals.items) }
         ensures claims { IfOk result (λ taken.
             HaveAllGroups workers (groups_told taken.counts.items) taken.claims.items) }
         ensures fault { (u : Setup) → TakesBy self.now.kernel self.now.grid self.now.theta self.now.group u
@@ -264,6 +274,7 @@ impl World {
         ensures ok { IfOk result (λ r. (u : Setup) → StandsFor self u
             → Reaches u self.due taken.bodies.items taken.counts.items taken.domains taken.ranks.items
             → Steps u self.due r.0 r.1.text) }
+        ensures arrivals { IfOk result (λ r. r.1.arrivals.items ≡ taken.arrivals.items) }
         ensures claims { (workers : ℕ) → HaveAllGroups workers (groups_told taken.counts.items) taken.claims.items
             → IfOk result (λ r. HaveAllGroups workers (groups_told r.1.text.ranks) r.1.claims.items) }
         ensures fault { IfErr result (λ f. f ≡ StepFault.Memory) }
@@ -281,6 +292,7 @@ impl World {
         };
         let report = StepReport {
             text,
+            arrivals: taken.arrivals,
             claims: taken.claims,
         };
         Ok((after, report))

@@ -1,5 +1,10 @@
 use Rattle.std.proofs.Common.{List, sym, ◌∙◌, subst}
-use Rattle.std.specs.Prelude.{IfErr}
+use Rattle.std.specs.Prelude.{IfErr, IfOk, Vec}
+use Rattle.std.specs.Global.{Global}
+use Rattle.pf_model.specs.Division.{Division, rank_count}
+use Rattle.tree_phase.specs.declared.arrivals.Arrivals.{Arrivals}
+use Rattle.tree_phase.specs.declared.rank_lists.RankLists.{RankLists}
+use Rattle.tree_phase.specs.Trees.{AreArrivals}
 use Rattle.pf_model.specs.Particle.{Particle}
 use Rattle.rank_step.specs.Build.{IsTooMany}
 use Rattle.rank_step.proofs.build.build.Goals as goal
@@ -12,3 +17,8 @@ returns-clause-fault g c u by =
       theta = by.theta ∙ sym c.of-build.ensures.theta;
       group = by.group;
     }))
+
+pub returns-clause-arrivals : goal.returns-clause-arrivals
+returns-clause-arrivals g c =
+    subst (λ (d : Division). IfOk c.build_by.result (λ (built : Vec RankLists Global × Vec Arrivals Global). AreArrivals (rank_count d) built.1.items)) c.of-build.ensures.grid
+    c.build_by.ensures.arrivals

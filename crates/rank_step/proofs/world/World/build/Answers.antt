@@ -1,4 +1,6 @@
 use Rattle.std.proofs.Common.{IfOk, sym, ◌∙◌, ap, subst}
+use Rattle.pf_model.specs.Division.{rank_count}
+use Rattle.tree_phase.specs.Trees.{AreArrivals}
 use Rattle.rank_step.specs.declared.forces.Taken.{Taken}
 use Rattle.rank_step.specs.Ranks.{HaveTogether}
 use Rattle.rank_step.specs.World.{Standing}
@@ -26,3 +28,7 @@ returns-clause-together g c =
 
 pub returns-clause-fault : goal.returns-clause-fault
 returns-clause-fault g c u takes = c.build_and_take.ensures.fault u (takes_within _ c.args.self.now u c.self.view_is takes)
+
+pub returns-clause-arrivals : goal.returns-clause-arrivals
+returns-clause-arrivals g c =
+    subst (λ (w : Standing). IfOk c.build_and_take.result (λ (taken : Taken). AreArrivals (rank_count w.grid) taken.arrivals.items)) c.self.view_is c.build_and_take.ensures.arrivals
