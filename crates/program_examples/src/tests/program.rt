@@ -66,9 +66,22 @@ pub(crate) fn run(
 ) -> Result<Ran, Fail>
     requires { 0 < most }
 {
+    run_by(rt, &["run", "d"], inputs, fails, most)
+}
+
+// What these words leave of it.
+fn run_by(
+    rt: &(impl Threads + Wait + Sync + AllocGlobal),
+    words: &[&str],
+    inputs: Inputs<'_>,
+    fails: &[u64],
+    most: usize,
+) -> Result<Ran, Fail>
+    requires { 0 < most }
+{
     let alloc = rt.alloc();
     let mut store = store_of(alloc, inputs, fails, most)?;
-    let status = fdps(rt, alloc, &["run", "d"], &mut store, &Open);
+    let status = fdps(rt, alloc, words, &mut store, &Open);
     Ok(Ran { status, store })
 }
 
@@ -82,7 +95,28 @@ pub(crate) fn writes(
     inputs: Inputs<'_>,
     dumps: &str,
 ) -> Result<(), Fail> {
-    let ran = run(rt, inputs, &[], WHOLE)?;
+    writes_by(rt, &["run", "d"], inputs, dumps)
+}
+
+/// That it does so on 1, 2 and 64 workers.
+pub(crate) fn writes_on_workers(
+    rt: &(impl Threads + Wait + Sync + Abort + AllocGlobal),
+    inputs: Inputs<'_>,
+    dumps: &str,
+) -> Result<(), Fail> {
+    for workers in ["1", "2", "64"] {
+        writes_by(rt, &["run", "d", "--workers", workers], inputs, dumps)?;
+    }
+    Ok(())
+}
+
+fn writes_by(
+    rt: &(impl Threads + Wait + Sync + Abort + AllocGlobal),
+    words: &[&str],
+    inputs: Inputs<'_>,
+    dumps: &str,
+) -> Result<(), Fail> {
+    let ran = run_by(rt, words, inputs, &[], WHOLE)?;
     assert_eq!(rt; ran.status, Status::Done);
     assert_eq!(rt; text(ran.store.contents("o").unwrap_or(b"none"))?, dumps);
     assert!(rt; ran.store.said().is_empty());

@@ -1,7 +1,7 @@
-// Runs on several ranks, as their dumps show them.
+// Runs on several ranks, as their dumps show them, whatever the number of workers.
 
 use super::kernels::{GRAVITY, PULL};
-use super::program::{Inputs, writes};
+use super::program::{Inputs, writes, writes_on_workers};
 use std::fmt::Write;
 use std::test::Fail;
 
@@ -12,7 +12,7 @@ fn each_of_two_ranks_receives_the_particle_of_the_other(rt: HostRuntime) -> Resu
         kernel: GRAVITY,
         particles: "particles 1\ncount 2\n1 0 0 0 0 0 0 1 0 0 0 0\n2 3 4 0 0 0 0 1 0 0 0 0\n",
     };
-    writes(
+    writes_on_workers(
         &rt,
         inputs,
         "step 0 particles 2 ranks 2\n\
@@ -30,7 +30,7 @@ fn particles_on_a_cut_go_to_the_last_rank(rt: HostRuntime) -> Result<(), Fail> {
         kernel: GRAVITY,
         particles: "particles 1\ncount 2\n1 7 0 0 0 0 0 1 0 0 0 0\n2 7 5 0 0 0 0 1 0 0 0 0\n",
     };
-    writes(
+    writes_on_workers(
         &rt,
         inputs,
         "step 0 particles 2 ranks 4\n\
@@ -53,7 +53,7 @@ fn pieces_of_two_ranks_make_one_cell(rt: HostRuntime) -> Result<(), Fail> {
             2 1048576 0 0 0 0 0 1 0 0 0 0\n\
             3 1048581 0 0 0 0 0 3 0 0 0 0\n",
     };
-    writes(
+    writes_on_workers(
         &rt,
         inputs,
         "step 0 particles 3 ranks 3\n\
@@ -73,7 +73,7 @@ fn ranks_without_particles_have_lines_of_zeros(rt: HostRuntime) -> Result<(), Fa
         kernel: GRAVITY,
         particles: "particles 1\ncount 0\n",
     };
-    writes(
+    writes_on_workers(
         &rt,
         inputs,
         "step 0 particles 0 ranks 2\n\
@@ -92,7 +92,7 @@ fn the_grid_changes_owners_and_counts_alone(rt: HostRuntime) -> Result<(), Fail>
             2 1048576 0 0 0 0 0 1 0 0 0 0\n\
             3 1048581 0 0 0 0 0 3 0 0 0 0\n",
     };
-    writes(
+    writes_on_workers(
         &rt,
         inputs,
         "step 0 particles 3 ranks 8\n\
