@@ -3,6 +3,7 @@ mod faults;
 mod forces;
 mod inputs;
 mod kernels;
+mod limits;
 mod moves;
 mod program;
 mod ranks;
