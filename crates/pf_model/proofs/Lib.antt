@@ -24,3 +24,6 @@ mod ListMergeLemmas
 mod SufficiencyLemmas
 mod IdLemmas
 mod EveryLemmas
+mod TogetherLemmas
+mod PresentLemmas
+mod KeptLemmas

@@ -63,18 +63,18 @@ none_inside laws t inner outer n p r =
     let none = none_from_level t inner p r in
     level_from_none t outer p (λ level deep h. none level deep (passes_inside laws t inner outer n p level deep h))
 
--- the item of a particle lies in its entry
-lies_at : Laws → (t : Criterion) (inner outer : Bounds) → AreNested inner outer → (js : List Particle) (j : Particle) (o r : Option ℕ) → level_of t outer j.at ≡ o → level_of t inner j.at ≡ r → lies_in (entry_at t outer js j o) (entry_at t inner js j r) ≡ true
-lies_at laws t inner outer n js j None None e h = eq-eqb j.id j.id refl
-lies_at laws t inner outer n js j None (Some level) e h = is_cell-from_same (cell_at j.at level) (cell_at j.at level) refl
-lies_at laws t inner outer n js j (Some deep) None e h = absurd (let none = sym (none_inside laws t inner outer n j.at h) ∙ e in cc)
-lies_at laws t inner outer n js j (Some deep) (Some level) e h =
+-- the item of a particle lies in its entry, over whatever particles the one and the other are
+lies_at : Laws → (t : Criterion) (inner outer : Bounds) → AreNested inner outer → (ks js : List Particle) (j : Particle) (o r : Option ℕ) → level_of t outer j.at ≡ o → level_of t inner j.at ≡ r → lies_in (entry_at t outer ks j o) (entry_at t inner js j r) ≡ true
+lies_at laws t inner outer n ks js j None None e h = eq-eqb j.id j.id refl
+lies_at laws t inner outer n ks js j None (Some level) e h = is_cell-from_same (cell_at j.at level) (cell_at j.at level) refl
+lies_at laws t inner outer n ks js j (Some deep) None e h = absurd (let none = sym (none_inside laws t inner outer n j.at h) ∙ e in cc)
+lies_at laws t inner outer n ks js j (Some deep) (Some level) e h =
     let order = level_inside laws t inner outer n j.at deep level e h in
     let within = (first_from_level t outer j.at deep e).within in
     and_from _ _ (le-leb level deep order) (is_cell-from_same (cell_at j.at level) (ancestor_at (cell_at j.at deep) level) (sym (laws.nest j.at level deep order within)))
 
-pub lies_in_own : Laws → (t : Criterion) (inner outer : Bounds) → AreNested inner outer → (js : List Particle) (j : Particle) → lies_in (entry_of t outer js j) (entry_of t inner js j) ≡ true
-lies_in_own laws t inner outer n js j = lies_at laws t inner outer n js j (level_of t outer j.at) (level_of t inner j.at) refl refl
+pub lies_in_own : Laws → (t : Criterion) (inner outer : Bounds) → AreNested inner outer → (ks js : List Particle) (j : Particle) → lies_in (entry_of t outer ks j) (entry_of t inner js j) ≡ true
+lies_in_own laws t inner outer n ks js j = lies_at laws t inner outer n ks js j (level_of t outer j.at) (level_of t inner j.at) refl refl
 
 -- entries of one cell are one
 one_cell_entry : (t : Criterion) (box : Bounds) (js : List Particle) (i j : Particle) (level : ℕ) → cell_at j.at level ≡ cell_at i.at level → entry_at t box js j (Some level) ≡ entry_at t box js i (Some level)
@@ -87,15 +87,15 @@ shared_entry laws t box js i j level e same =
     ap (entry_at t box js j) (level_from_first t box j.at level first) ∙ one_cell_entry t box js i j level same
 
 -- an entry in which the item of a particle lies is the particle's
-only_entry : Laws → (t : Criterion) (inner outer : Bounds) → AreNested inner outer → (js : List Particle) → HaveDistinctIds js → (j i : Particle) (o r : Option ℕ) → In j js → In i js → level_of t outer j.at ≡ o → level_of t inner i.at ≡ r →
-    lies_in (entry_at t outer js j o) (entry_at t inner js i r) ≡ true → entry_of t inner js j ≡ entry_at t inner js i r
-only_entry laws t inner outer n js distinct j i None None k l e h lies =
+only_entry : Laws → (t : Criterion) (inner outer : Bounds) → AreNested inner outer → (ks js : List Particle) → HaveDistinctIds js → (j i : Particle) (o r : Option ℕ) → In j js → In i js → level_of t outer j.at ≡ o → level_of t inner i.at ≡ r →
+    lies_in (entry_at t outer ks j o) (entry_at t inner js i r) ≡ true → entry_of t inner js j ≡ entry_at t inner js i r
+only_entry laws t inner outer n ks js distinct j i None None k l e h lies =
     let one : j ≡ i = same_from_id js distinct j i k l (eqb-true j.id i.id lies) in
     ap (entry_of t inner js) one ∙ ap (entry_at t inner js i) h
-only_entry laws t inner outer n js distinct j i None (Some level) k l e h lies =
+only_entry laws t inner outer n ks js distinct j i None (Some level) k l e h lies =
     shared_entry laws t inner js i j level h (sym (same_from_is_cell (cell_at i.at level) (cell_at j.at level) lies))
-only_entry laws t inner outer n js distinct j i (Some deep) None k l e h lies = absurd (false≢true lies)
-only_entry laws t inner outer n js distinct j i (Some deep) (Some level) k l e h lies =
+only_entry laws t inner outer n ks js distinct j i (Some deep) None k l e h lies = absurd (false≢true lies)
+only_entry laws t inner outer n ks js distinct j i (Some deep) (Some level) k l e h lies =
     let order : level ≤ deep = leb-true level deep (and_parts _ _ lies).0 in
     let within = (first_from_level t outer j.at deep e).within in
     let there = same_from_is_cell (cell_at i.at level) (ancestor_at (cell_at j.at deep) level) (and_parts _ _ lies).1 in
@@ -115,12 +115,12 @@ items_lie_in_one_entry laws t inner outer js f inner_is outer_is within distinct
     let of = list-sound t inner js e (in_from_contains es e (i, inside, get_or_default es i e d inside)) in
     let lies' : lies_in (entry_of t outer js j) (entry_of t inner js of.0) ≡ true =
     (let P : Entry → Entry → Type 0 = λ a b. lies_in a b ≡ true in subst (P (entry_of t outer js j)) of.2 (subst (λ (a : Entry). P a e) from.2 lies)) in
-    let one = only_entry laws t inner outer n js distinct j of.0 (level_of t outer j.at) (level_of t inner of.0.at) from.1 of.1 refl refl lies' in
+    let one = only_entry laws t inner outer n js js distinct j of.0 (level_of t outer j.at) (level_of t inner of.0.at) from.1 of.1 refl refl lies' in
     one_place comes_before comes_before-strict es (list-ascends t inner js) i place.0 d inside place.1 (of.2 ∙ sym one ∙ sym (at_place d))) in
     let found : (i : ℕ) (d : Entry) → i ≡ place.0 → lies_in f (get_or es i d) ≡ true = λ i d same.
     (let is : get_or es i d ≡ own = ap (λ (k : ℕ). get_or es k d) same ∙ at_place d in
     let P : Entry → Entry → Type 0 = λ a b. lies_in a b ≡ true in
-    subst (P f) (sym is) (subst (λ (a : Entry). P a own) (sym from.2) (lies_in_own laws t inner outer n js j))) in
+    subst (P f) (sym is) (subst (λ (a : Entry). P a own) (sym from.2) (lies_in_own laws t inner outer n js js j))) in
     (place.0, place.1, λ i d inside. (λ h. only i d inside (search (rules, h)), λ same. search (rules, found i d same)))
 
 -- the moment of particles that two tests, never both, keep
@@ -128,15 +128,15 @@ moment_either : MomentsIgnoreOrder → (p q : Particle → Bool) (js : List Part
 moment_either law p q js apart =
     law (filter (λ j. p j || q j) js) (filter p js ++ filter q js) (either_filter p q js apart) ∙ moment_of-append (filter p js) (filter q js)
 
-filter_none : {X : Type 0} (xs : List X) → filter (λ (x : X). false) xs ≡ []
+pub filter_none : {X : Type 0} (xs : List X) → filter (λ (x : X). false) xs ≡ []
 filter_none [] = refl
 filter_none (x ∷ xs) = filter_none xs
 
-none_pass : {X : Type 0} (p : X → Bool) (xs : List X) → ((x : X) → In x xs → p x ≡ false) → filter p xs ≡ []
+pub none_pass : {X : Type 0} (p : X → Bool) (xs : List X) → ((x : X) → In x xs → p x ≡ false) → filter p xs ≡ []
 none_pass p xs h = filter_agree_on p (λ _. false) xs h ∙ filter_none xs
 
 -- a near particle alone leads to itself
-only_leads : (t : Criterion) (box : Bounds) (js : List Particle) (p : Particle) → HaveDistinctIds js → In p js → level_of t box p.at ≡ None → filter (leads_to t box (One p)) js ≡ p ∷ []
+pub only_leads : (t : Criterion) (box : Bounds) (js : List Particle) (p : Particle) → HaveDistinctIds js → In p js → level_of t box p.at ≡ None → filter (leads_to t box (One p)) js ≡ p ∷ []
 unfolding IsDistinct
 only_leads t box [] p distinct i near = absurd i
 only_leads t box (j ∷ js) p distinct (inl s) near =
@@ -186,31 +186,44 @@ ascends-filter test [] a = tt
 ascends-filter test (e ∷ es) a =
     cond_both (test e) (e ∷ filter test es) (filter test es) (IsAscending comes_before) (λ _. (before_kept e test es a.0, ascends-filter test es a.1)) (λ _. ascends-filter test es a.1)
 
--- the moment of an inner entry, from the particles of its items
-entry_adds_up : Laws → MomentsIgnoreOrder → (t : Criterion) (inner outer : Bounds) → AreNested inner outer → (js : List Particle) → HaveDistinctIds js → (e : Entry) → In e (list_of t inner js) → entry_moment e ≡ moment_together (items_in e (list_of t outer js))
-entry_adds_up laws law t inner outer n js distinct e i =
-    let items = list_of t outer js in
+-- of some particles ks, those that lead to an inner entry over the particles js lead to the items over ks in it
+pub lead_to_items : Laws → (t : Criterion) (inner outer : Bounds) → AreNested inner outer → (ks js : List Particle) → HaveDistinctIds ks → HaveDistinctIds js → ((j : Particle) → In j ks → In j js) → (e : Entry) → In e (list_of t inner js) →
+    filter (leads_to t inner e) ks ≡ filter (λ j. list_any (λ f. leads_to t outer f j) (items_in e (list_of t outer ks))) ks
+lead_to_items laws t inner outer n ks js distinct distinct_js some e i =
+    let items = list_of t outer ks in
     let kept = items_in e items in
     let test : Entry → Bool = λ f. lies_in f e in
-    let some = moment_of_some law t outer js distinct kept (ascends-filter test items (list-ascends t outer js)) (λ f k. (in_filter test f items k).0) in
     let of = list-sound t inner js e i in
-    let leads : (j : Particle) → In j js → leads_to t inner e j ≡ list_any (λ f. leads_to t outer f j) kept = λ j k.
+    filter_agree_on (leads_to t inner e) (λ j. list_any (λ f. leads_to t outer f j) kept) ks (λ j k.
     same_tests (leads_to t inner e j) (list_any (λ f. leads_to t outer f j) kept)
     (λ h.
-    (let own : e ≡ entry_of t inner js j = entry-unique t inner js distinct j k e i h in
-    let f = entry_of t outer js j in
-    let lies : lies_in f e ≡ true = (let P : Entry → Type 0 = λ v. lies_in f v ≡ true in subst P (sym own) (lies_in_own laws t inner outer n js j)) in
-    list_any-from_in (λ g. leads_to t outer g j) kept f (keeps test f items lies (list-complete t outer js distinct j k)) (leads_to-itself t outer js j (level_of t outer j.at) refl)))
+    (let own : e ≡ entry_of t inner js j = entry-unique t inner js distinct_js j (some j k) e i h in
+    let f = entry_of t outer ks j in
+    let lies : lies_in f e ≡ true = (let P : Entry → Type 0 = λ v. lies_in f v ≡ true in subst P (sym own) (lies_in_own laws t inner outer n ks js j)) in
+    list_any-from_in (λ g. leads_to t outer g j) kept f (keeps test f items lies (list-complete t outer ks distinct j k)) (leads_to-itself t outer ks j (level_of t outer j.at) refl)))
     (λ h.
     (let found = in_from_list_any (λ g. leads_to t outer g j) kept h in
     let both = in_filter test found.0 items found.1 in
-    let f_is : found.0 ≡ entry_of t outer js j = entry-unique t outer js distinct j k found.0 both.0 found.2 in
-    let lies : lies_in (entry_of t outer js j) (entry_of t inner js of.0) ≡ true =
-    (let P : Entry → Entry → Type 0 = λ a b. lies_in a b ≡ true in subst (P (entry_of t outer js j)) of.2 (subst (λ (a : Entry). P a e) f_is both.1)) in
-    let one = only_entry laws t inner outer n js distinct j of.0 (level_of t outer j.at) (level_of t inner of.0.at) k of.1 refl refl lies in
+    let f_is : found.0 ≡ entry_of t outer ks j = entry-unique t outer ks distinct j k found.0 both.0 found.2 in
+    let lies : lies_in (entry_of t outer ks j) (entry_of t inner js of.0) ≡ true =
+    (let P : Entry → Entry → Type 0 = λ a b. lies_in a b ≡ true in subst (P (entry_of t outer ks j)) of.2 (subst (λ (a : Entry). P a e) f_is both.1)) in
+    let one = only_entry laws t inner outer n ks js distinct_js j of.0 (level_of t outer j.at) (level_of t inner of.0.at) (some j k) of.1 refl refl lies in
     let P : Entry → Type 0 = λ v. leads_to t inner v j ≡ true in
-    subst P (one ∙ sym of.2) (leads_to-itself t inner js j (level_of t inner j.at) refl))) in
-    moment_of_entry t inner js distinct e i ∙ ap moment_of (filter_agree_on (leads_to t inner e) (λ j. list_any (λ f. leads_to t outer f j) kept) js leads) ∙ sym some
+    subst P (one ∙ sym of.2) (leads_to-itself t inner js j (level_of t inner j.at) refl))))
+
+-- the items in an entry ascend, and are items
+pub items_ascend : (t : Criterion) (outer : Bounds) (ks : List Particle) (e : Entry) → IsAscending comes_before (items_in e (list_of t outer ks))
+items_ascend t outer ks e = ascends-filter (λ f. lies_in f e) (list_of t outer ks) (list-ascends t outer ks)
+
+pub items_are_items : (t : Criterion) (outer : Bounds) (ks : List Particle) (e f : Entry) → In f (items_in e (list_of t outer ks)) → In f (list_of t outer ks)
+items_are_items t outer ks e f k = (in_filter (λ g. lies_in g e) f (list_of t outer ks) k).0
+
+-- the moment of an inner entry, from the particles of its items
+entry_adds_up : Laws → MomentsIgnoreOrder → (t : Criterion) (inner outer : Bounds) → AreNested inner outer → (js : List Particle) → HaveDistinctIds js → (e : Entry) → In e (list_of t inner js) → entry_moment e ≡ moment_together (items_in e (list_of t outer js))
+entry_adds_up laws law t inner outer n js distinct e i =
+    moment_of_entry t inner js distinct e i
+    ∙ ap moment_of (lead_to_items laws t inner outer n js js distinct distinct (λ j k. k) e i)
+    ∙ sym (moment_of_some law t outer js distinct (items_in e (list_of t outer js)) (items_ascend t outer js e) (items_are_items t outer js e))
 
 pub entries_add_up_their_items : Laws → MomentsIgnoreOrder → EntriesAddUpTheirItems
 entries_add_up_their_items laws law t inner outer js e inner_is outer_is within distinct there =

@@ -1,9 +1,11 @@
 -- Laws of moments.
 use Rattle.std.specs.Prelude.{◌≡◌, ◌≤◌, List, ◌++◌, length, All, IsPermutation}
 use Rattle.pf_model.specs.declared.limits.TheConstants.{MOST_PARTICLES}
+use Rattle.pf_model.specs.declared.entry.Entry.{Entry}
 use Rattle.pf_model.specs.Particle.{Particle, IsParticle}
 use Rattle.pf_model.specs.Totals.{Totals, IsTotals, IsSource}
 use Rattle.pf_model.specs.Sums.{moment_of, together, source_of}
+use Rattle.pf_model.specs.Sufficiency.{moment_together}
 
 -- the moment of some particles and others is that of both together
 abbrev pub MomentsAddUp : Type 0
@@ -26,3 +28,18 @@ MomentsKeepTheirLimits = (js : List Particle) → length js ≤ MOST_PARTICLES �
 -- and where there is a particle, so does the source that they are
 abbrev pub SourcesKeepTheirLimits : Type 0
 SourcesKeepTheirLimits = (m : Totals) → 1 ≤ m.count → IsTotals m → IsSource (source_of m)
+
+-- moments are joined in any order
+abbrev pub MomentsJoinInAnyOrder : Type 0
+MomentsJoinInAnyOrder =
+    ((m n : Totals) → together m n ≡ together n m) × ((m n o : Totals) →
+    together (together m n) o ≡ together m (together n o))
+
+-- so the moment of some entries and others is that of both together
+abbrev pub EntriesJoinTheirMoments : Type 0
+EntriesJoinTheirMoments =
+    (es fs : List Entry) → moment_together (es ++ fs) ≡ together (moment_together es) (moment_together fs)
+
+-- and the order of entries changes nothing in it
+abbrev pub EntriesJoinInAnyOrder : Type 0
+EntriesJoinInAnyOrder = (es fs : List Entry) → IsPermutation es fs → moment_together es ≡ moment_together fs

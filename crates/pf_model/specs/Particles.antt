@@ -1,5 +1,5 @@
 -- Lists of particles.
-use Rattle.std.specs.Prelude.{◌≤◌, List, length, map, nat_eq, nat_lt}
+use Rattle.std.specs.Prelude.{◌≤◌, List, length, map, nat_eq, nat_lt, IsPermutation}
 use Rattle.std.specs.List.{IsDistinct, IsDistinct-prop}
 use Rattle.std.proofs.Props.{props}
 use Rattle.pf_model.specs.declared.limits.TheConstants.{MOST_PARTICLES}
@@ -9,6 +9,10 @@ use Rattle.pf_model.specs.Order.{in_order_once}
 -- no two particles have one id
 abbrev pub HaveDistinctIds : List Particle → Type 0
 HaveDistinctIds js = IsDistinct nat_eq (map (λ j. j.id) js)
+
+-- the same particles, maybe at other places and in another order: they have the same ids
+abbrev pub HaveSameIds : List Particle → List Particle → Type 0
+HaveSameIds js ks = IsPermutation (map (λ j. j.id) js) (map (λ k. k.id) ks)
 
 -- the particles that a run can have: few, and of distinct ids
 pub record AreBodies (js : List Particle) : Type 0 where

@@ -57,7 +57,8 @@ pub use list_laws::{
 pub use merging_laws::{lists_merge, merged_lists_share_cells};
 pub use moment::Moment;
 pub use moment_laws::{
-    moments_add_up, moments_cancel, moments_ignore_order, moments_keep_their_limits,
+    entries_join_in_any_order, entries_join_their_moments, moments_add_up, moments_cancel,
+    moments_ignore_order, moments_join_in_any_order, moments_keep_their_limits,
     sources_keep_their_limits,
 };
 pub use opening_laws::{cells_inside_pass, cells_pass_for_boxes_inside, passing_cells_lie_apart};
@@ -66,7 +67,12 @@ pub use particle_laws::{
 };
 pub use plain_group::slow_group;
 pub use plain_list::slow_list;
-pub use reuse_laws::{kept_lists_begin_as_lists, present_begins_as_built};
+pub use reuse_laws::{
+    kept_entries_add_up_items_of_some, kept_entries_add_up_over_ranks,
+    kept_entries_add_up_their_items, kept_lists_begin_as_lists, present_are_found,
+    present_begins_as_built, present_entries_are_found, present_ignores_order,
+    present_members_are_of_ranks, present_of_some_stay_some,
+};
 pub use steps::Steps;
 pub use sufficiency_laws::{
     boxes_lie_in_domains, entries_add_up_their_items, items_lie_in_one_entry,

@@ -2,7 +2,8 @@
 // proof needs a law calls its function.
 
 ghost use Rattle.pf_model.specs.MomentLaws.{MomentsAddUp, MomentsCancel, MomentsIgnoreOrder, MomentsKeepTheirLimits};
-ghost use Rattle.pf_model.specs.MomentLaws.{SourcesKeepTheirLimits};
+ghost use Rattle.pf_model.specs.MomentLaws.{SourcesKeepTheirLimits, MomentsJoinInAnyOrder, EntriesJoinTheirMoments};
+ghost use Rattle.pf_model.specs.MomentLaws.{EntriesJoinInAnyOrder};
 
 /// The moment of some particles and others is that of both together.
 pub fn moments_add_up()
@@ -27,4 +28,19 @@ pub fn moments_keep_their_limits()
 /// The source that some particles are keeps its limits.
 pub fn sources_keep_their_limits()
     ensures { SourcesKeepTheirLimits }
+{}
+
+/// Moments are joined in any order.
+pub fn moments_join_in_any_order()
+    ensures { MomentsJoinInAnyOrder }
+{}
+
+/// The moment of some entries and others is that of both together.
+pub fn entries_join_their_moments()
+    ensures { EntriesJoinTheirMoments }
+{}
+
+/// The order of entries changes nothing in their moment.
+pub fn entries_join_in_any_order()
+    ensures { EntriesJoinInAnyOrder }
 {}

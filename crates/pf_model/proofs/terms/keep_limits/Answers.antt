@@ -1,6 +1,5 @@
-use Rattle.std.proofs.Common.{subst, ap, ◌∙◌}
 use Rattle.pf_model.proofs.EveryLemmas.{one_more, every}
-use Rattle.pf_model.specs.Particle.{Particle, IsParticle}
+use Rattle.pf_model.specs.Particle.{IsParticle}
 use Rattle.pf_model.proofs.terms.keep_limits.Goals as goal
 
 pub loop-body-preserved : goal.loop-body-preserved

@@ -1,7 +1,7 @@
-use Rattle.std.proofs.Common.{◌≡◌, ℕ, ◌<◌, ◌^◌, ℤ, List, length, sym, ◌∙◌, ap, subst}
-use Rattle.pf_geom.specs.Position.{Position, IsPosition}
+use Rattle.std.proofs.Common.{ℕ, ◌<◌, ◌^◌, length, sym, ◌∙◌, ap, subst}
+use Rattle.pf_geom.specs.Position.{IsPosition}
 use Rattle.pf_model.specs.declared.body.Body.TheInside.{Inside}
-use Rattle.pf_model.specs.Particle.{Particle, HasParticleLimits, IsParticle}
+use Rattle.pf_model.specs.Particle.{Particle, HasParticleLimits}
 use Rattle.pf_model.proofs.terms.keeps_limits.Goals as goal
 
 pub returns : goal.returns
