@@ -15,6 +15,10 @@ KeysInterleave = (p : Position) → IsPosition p → HasBitsOf p (morton_key p)
 abbrev pub KeysAreDistinct : Type 0
 KeysAreDistinct = (p q : Position) → IsPosition p → IsPosition q → (morton_key p ≡ morton_key q) ↔ (p ≡ q)
 
+-- a key has at most three bits for each level
+abbrev pub KeysFit : Type 0
+KeysFit = (p : Position) → morton_key p < 2 ^ 90
+
 -- the cell of x at a level is the set of the positions whose floored coordinates there equal those of x
 abbrev pub CellsHaveEqualFloors : Type 0
 CellsHaveEqualFloors =

@@ -1,11 +1,19 @@
 -- Places in the cube of side 2^30.
 use Rattle.std.specs.Prelude.{ℕ, ◌<◌, ◌≤◌, ◌^◌}
+use Rattle.pf_geom.specs.declared.axis.Axis.{Axis}
+use Rattle.pf_geom.specs.declared.axis.Axis.TheVariants.{X, Y, Z}
 
 -- a point as clauses see it: three whole coordinates
 pub record Position : Type 0 where
   pub x : ℕ
   pub y : ℕ
   pub z : ℕ
+
+-- the coordinate of a position along an axis
+abbrev pub along : Axis → Position → ℕ
+along X p = p.x
+along Y p = p.y
+along Z p = p.z
 
 -- each coordinate lies in the cube
 pub record IsInCube (x y z : ℕ) : Type 0 where

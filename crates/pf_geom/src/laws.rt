@@ -1,8 +1,8 @@
 // The laws of keys, cells, boxes and gaps, each the contract of a function that does nothing when it
 // runs. A caller whose proof needs a law calls its function.
 
-ghost use Rattle.pf_geom.specs.CellLaws.{KeysInterleave, KeysAreDistinct, CellsHaveEqualFloors, PositionsHaveCells};
-ghost use Rattle.pf_geom.specs.CellLaws.{CellsAreKeyRanges, CellsOfAPositionNest, PositionsShareLowerCells};
+ghost use Rattle.pf_geom.specs.CellLaws.{KeysInterleave, KeysAreDistinct, KeysFit, CellsHaveEqualFloors};
+ghost use Rattle.pf_geom.specs.CellLaws.{PositionsHaveCells, CellsAreKeyRanges, CellsOfAPositionNest, PositionsShareLowerCells};
 ghost use Rattle.pf_geom.specs.CellLaws.{CellsNest, CornersAreFloors, CornersLieInside, ClosedBoxesHoldTheirCells};
 ghost use Rattle.pf_geom.specs.BoxLaws.{BoxesRoundAreLeast, GapsAreBounded, GapsGrowAsBoxesShrink};
 ghost use Rattle.pf_geom.specs.BoxLaws.{GapsGrowAsCellsShrink, GapsVanishWhereShared};
@@ -16,6 +16,13 @@ pub fn keys_interleave()
 pub fn keys_are_distinct()
     ensures { KeysAreDistinct }
 {}
+
+/// A key is below 2^90.
+pub fn keys_fit()
+    ensures { KeysFit }
+{
+    positions_have_cells();
+}
 
 /// The cell of a position at a level holds exactly the positions with the same floored coordinates.
 pub fn cells_have_equal_floors()
