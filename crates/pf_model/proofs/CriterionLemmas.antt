@@ -1,8 +1,10 @@
 -- The opening test: what passes when sides and gaps change.
-use Rattle.std.proofs.Common.{ℕ, zero, suc, ◌-◌, ◌*◌, ◌^◌, ◌<◌, ◌≤◌, arith}
-use Rattle.std.proofs.Math.Nat.{mul-le-mul, mul-le-mul_right, pow-le-pow_right}
+use Rattle.std.proofs.Common.{◌≡◌, ℕ, zero, suc, ◌-◌, ◌*◌, ◌^◌, ◌<◌, ◌≤◌, ap, arith, ◌∙◌}
+use Rattle.std.proofs.Math.Nat.{mul-pos, mul-le-mul, mul-le-mul_right, pow-le-pow_right}
 use Rattle.std.proofs.lemmas.Nat.{pow_pos}
-use Rattle.pf_geom.specs.Gap.{square}
+use Rattle.pf_geom.specs.Octant.{side_at}
+use Rattle.pf_geom.specs.Gap.{square, gap2_to}
+use Rattle.pf_model.specs.OpeningLaws.{NothingPassesAtZero}
 
 -- a smaller side and a greater gap pass
 pub passes-grows : (side small gap wide a b : ℕ) → small ≤ side → gap ≤ wide → square side * square b ≤ gap * square a → square small * square b ≤ wide * square a
@@ -25,3 +27,14 @@ gap-positive level zero a b q passes =
     let positive : 1 ≤ square (2 ^ (30 - level)) * square b = mul-le-mul (mul-le-mul side side) (mul-le-mul q q) in
     absurd (omega arith)
 gap-positive level (suc gap) a b q passes = omega arith
+
+-- with no opening angle nothing is as small as is asked
+pub nothing_passes_at_zero : NothingPassesAtZero
+nothing_passes_at_zero t box c angle none passes =
+    let gap = gap2_to t.edge box c in
+    let side = pow_pos (30 - c.level) in
+    let some = angle.denominator_positive in
+    let left : 0 < square (side_at c.level) * square t.b = mul-pos (mul-pos side side) (mul-pos some some) in
+    let nothing : gap * 0 ≡ 0 = omega arith in
+    let right : gap * square t.a ≡ 0 = ap (λ (a : ℕ). gap * (a * a)) none ∙ nothing in
+    omega (arith, passes)

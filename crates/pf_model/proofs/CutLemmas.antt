@@ -14,6 +14,7 @@ use Rattle.pf_geom.specs.Position.{Position, IsPosition}
 use Rattle.pf_model.specs.Particle.{Particle}
 use Rattle.pf_model.specs.Order.{in_order_once}
 use Rattle.pf_model.specs.Domains.{AreCuts, slab_of, slab_start, slab_end, comes_first, coordinates_of, cut_before, cuts_of}
+use Rattle.pf_model.specs.DomainLaws.{CoordinatesAscend}
 use Rattle.pf_model.proofs.OrderLemmas.{IsStrict, IsAscending-in_order, in_from_in_order}
 use Rattle.pf_model.proofs.ListLemmas.{in_from_contains, contains_from_in, before_at}
 use Rattle.pf_model.proofs.EntryLemmas.{pair-irreflexive, pair-transitive, pair_below}
@@ -30,7 +31,7 @@ comes_first-strict along = record {
 }
 
 -- the coordinates ascend
-coordinates-rise : (along : Position → ℕ) (js : List Particle) → IsNonDecreasing (coordinates_of along js)
+pub coordinates-rise : CoordinatesAscend
 coordinates-rise along js i j d least within =
     let sorted = in_order_once (comes_first along) js in
     let long = length-map sorted (λ (k : Particle). along k.at) in

@@ -4,7 +4,7 @@ use Rattle.std.specs.Prelude.{nat_eq}
 use Rattle.std.specs.List.{filter, list_any, flat_map, range_with_len, Contains}
 use Rattle.std.specs.List.Sorted.{IsPermutation}
 use Rattle.std.proofs.lemmas.Bool.{eqb-true}
-use Rattle.std.proofs.lemmas.List.Sorted.{IsPermutation-sym, length_permutation, Contains-permutation}
+use Rattle.std.proofs.lemmas.List.Sorted.{IsPermutation-sym, length_permutation}
 use Rattle.std.proofs.lemmas.Map.Views.{Contains-from_any}
 use Rattle.pf_geom.specs.Position.{Position}
 use Rattle.pf_geom.specs.Bounds.{Bounds}
@@ -16,23 +16,20 @@ use Rattle.pf_model.specs.Order.{in_order_once}
 use Rattle.pf_model.specs.Domains.{Multisection, slab_of, owner_by, box_by, comes_first, cuts_of, x_cuts, in_slab, y_cuts, in_column, z_cuts, cuts_for, owner, particles_of, domain_box}
 use Rattle.pf_model.specs.Interaction.{list_of}
 use Rattle.pf_model.specs.EssentialTree.{tree_for, essential_tree}
-use Rattle.pf_model.specs.DomainLaws.{CutsIgnoreOrder, DomainsIgnoreOrder, EssentialTreesIgnoreOrder, RanksHaveTheirOwn}
-use Rattle.pf_model.proofs.OrderLemmas.{In, IsConnected, IsAscending-in_order, in_from_in_order, in_order_from_in, same_ascending}
-use Rattle.pf_model.proofs.ListLemmas.{in_from_contains, contains_from_in, list-same}
+use Rattle.pf_model.specs.DomainLaws.{OrdersAlongAreOne, CutsAlongIgnoreOrder, CutsIgnoreOrder, DomainsIgnoreOrder, EssentialTreesIgnoreOrder, RanksHaveTheirOwn}
+use Rattle.pf_model.proofs.OrderLemmas.{IsConnected, IsAscending-in_order, in_from_in_order, in_order_from_in, same_ascending}
+use Rattle.pf_model.proofs.ListLemmas.{list-same}
 use Rattle.pf_model.proofs.EntryLemmas.{pair-connected, same_from_id}
 use Rattle.pf_model.proofs.PermutationLemmas.{IsPermutation-filter, either_filter}
 use Rattle.pf_model.proofs.CutLemmas.{comes_first-strict}
+use Rattle.pf_model.proofs.RisingLemmas.{permuted_in, lists_in_order_are_one}
 use Rattle.pf_model.proofs.ReuseLemmas.{some_have_distinct_ids, distinct_ids_ignore_order, filter_agree_on}
-
--- particles that a permutation has
-permuted_in : {X : Type 0} (xs ys : List X) (x : X) → IsPermutation xs ys → In x xs → In x ys
-permuted_in xs ys x h i = in_from_contains ys x (Contains-permutation xs ys x h (contains_from_in xs x i))
 
 -- the order of (coordinate, id) leaves no two particles level
 IsConnected-along : (along : Position → ℕ) (js : List Particle) → HaveDistinctIds js → IsConnected (comes_first along) js
 IsConnected-along along js distinct p q i k h l = same_from_id js distinct q p k i (sym (pair-connected (along p.at) p.id (along q.at) q.id h l).1)
 
-sorted_alike : (along : Position → ℕ) (js ks : List Particle) → HaveDistinctIds js → IsPermutation js ks → in_order_once (comes_first along) js ≡ in_order_once (comes_first along) ks
+pub sorted_alike : (along : Position → ℕ) (js ks : List Particle) → HaveDistinctIds js → IsPermutation js ks → in_order_once (comes_first along) js ≡ in_order_once (comes_first along) ks
 sorted_alike along js ks distinct h =
     let order = comes_first along in
     let strict = comes_first-strict along in
@@ -42,11 +39,19 @@ sorted_alike along js ks distinct h =
     (λ p i. in_order_from_in order ks (IsConnected-along along ks distinct_ks) p (permuted_in js ks p h (in_from_in_order order js p i)))
     (λ p i. in_order_from_in order js (IsConnected-along along js distinct) p (permuted_in ks js p back (in_from_in_order order ks p i)))
 
-cuts_alike : (along : Position → ℕ) (js ks : List Particle) (m : ℕ) → HaveDistinctIds js → IsPermutation js ks → cuts_of along js m ≡ cuts_of along ks m
+pub cuts_alike : (along : Position → ℕ) (js ks : List Particle) (m : ℕ) → HaveDistinctIds js → IsPermutation js ks → cuts_of along js m ≡ cuts_of along ks m
 cuts_alike along js ks m distinct h =
     let sorted = sorted_alike along js ks distinct h in
     let long = sym (length_permutation js ks h) in
     λ i. map (λ k. get_or (map (λ j. along j.at) (sorted i)) (long i * k / m) (2 ^ 30)) (range_with_len 1 (m - 1))
+
+pub cuts_along_ignore_order : CutsAlongIgnoreOrder
+cuts_along_ignore_order = cuts_alike
+
+pub orders_along_are_one : OrdersAlongAreOne
+orders_along_are_one along js ks h ordered =
+    let strict = comes_first-strict along in
+    lists_in_order_are_one (comes_first along) js ks (record { irreflexive = strict.irreflexive; transitive = strict.transitive }) h ordered
 
 -- what a test keeps of both, where the tests are one
 filtered_alike : (test other : Particle → Bool) (js ks : List Particle) → ((j : Particle) → test j ≡ other j) → IsPermutation js ks → IsPermutation (filter test js) (filter other ks)

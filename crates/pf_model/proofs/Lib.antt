@@ -27,3 +27,5 @@ mod EveryLemmas
 mod TogetherLemmas
 mod PresentLemmas
 mod KeptLemmas
+mod RisingLemmas
+mod PlaceLemmas

@@ -1,9 +1,11 @@
 -- What holds along a permutation of a list.
-use Rattle.std.proofs.Common.{◌≡◌, ℕ, zero, suc, ◌<◌, Bool, true, false, cond, List, [], ◌∷◌, ◌++◌, ◌||◌, length, get_or, set, inl, inr, refl, arith}
-use Rattle.std.specs.List.{filter, swap}
+use Rattle.std.proofs.Common.{◌≡◌, ℕ, zero, suc, ◌<◌, Bool, true, false, cond, List, [], ◌∷◌, ◌++◌, ◌||◌, length, get_or, set, inl, inr, refl, subst, arith}
+use Rattle.std.specs.List.{filter, flat_map, swap}
 use Rattle.std.specs.List.Sorted.{IsPermutation}
+use Rattle.pf_model.specs.OrderLaws.{PartsKeepPermutations}
 use Rattle.pf_model.proofs.OrderLemmas.{In}
-use Rattle.std.proofs.lemmas.List.Sorted.{IsPermutation-refl, IsPermutation-cons, IsPermutation-trans, IsPermutation-swap, IsPermutation-keeps, IsPermutation-sym, IsPermutation-middle}
+use Rattle.std.proofs.lemmas.List.Sorted.{IsPermutation-refl, IsPermutation-cons, IsPermutation-trans, IsPermutation-swap, IsPermutation-keeps, IsPermutation-sym, IsPermutation-middle, IsPermutation-append, IsPermutation-append_left, IsPermutation-append_right, IsPermutation-append_comm}
+use Rattle.std.proofs.lemmas.List.{append_assoc}
 
 -- a relation of lists that is reflexive and transitive, and goes under a head and over an exchange of two heads
 module _ {X : Type 0} (R : List X → List X → Type 0) (same : (xs : List X) → R xs xs)
@@ -53,6 +55,31 @@ IsPermutation-filter {X} test xs ys h =
     (λ x y us. kept_turned (test x) (test y) x y (filter test us))
     (λ us vs ws p q. IsPermutation-trans (filter test us) (filter test vs) (filter test ws) p q)
     xs ys h
+
+parts_turned : {X Y : Type 0} (f : X → List Y) (x y : X) (xs : List X) → IsPermutation (flat_map f (x ∷ y ∷ xs)) (flat_map f (y ∷ x ∷ xs))
+parts_turned {Y = Y} f x y xs =
+    let rest : List Y = flat_map f xs in
+    subst (λ (l : List Y). IsPermutation l (f y ++ (f x ++ rest))) (append_assoc (f x) (f y) rest)
+    (subst (IsPermutation ((f x ++ f y) ++ rest)) (append_assoc (f y) (f x) rest)
+    (IsPermutation-append_left rest (f x ++ f y) (f y ++ f x) (IsPermutation-append_comm (f x) (f y))))
+
+-- what is made of each element of both
+IsPermutation-flat_map : {X Y : Type 0} (f : X → List Y) (xs ys : List X) → IsPermutation xs ys → IsPermutation (flat_map f xs) (flat_map f ys)
+IsPermutation-flat_map {X} f xs ys h =
+    along_permutation (λ (us vs : List X). IsPermutation (flat_map f us) (flat_map f vs))
+    (λ us. IsPermutation-refl (flat_map f us))
+    (λ x us vs p. IsPermutation-append_right (f x) (flat_map f us) (flat_map f vs) p)
+    (λ x y us. parts_turned f x y us)
+    (λ us vs ws p q. IsPermutation-trans (flat_map f us) (flat_map f vs) (flat_map f ws) p q)
+    xs ys h
+
+pub each_permutes : {X Y : Type 0} (f g : X → List Y) → ((x : X) → IsPermutation (f x) (g x)) → (xs : List X) → IsPermutation (flat_map f xs) (flat_map g xs)
+each_permutes f g each [] = IsPermutation-refl []
+each_permutes f g each (x ∷ xs) = IsPermutation-append (f x) (g x) (flat_map f xs) (flat_map g xs) (each x) (each_permutes f g each xs)
+
+pub parts_keep_permutations : {X Y : Type 0} → PartsKeepPermutations X Y
+parts_keep_permutations f g xs ys each h =
+    IsPermutation-trans (flat_map f xs) (flat_map f ys) (flat_map g ys) (IsPermutation-flat_map f xs ys h) (each_permutes f g each ys)
 
 -- two tests, never both, keep together what either keeps
 either_kept : {X : Type 0} (a b : Bool) (x : X) (all us vs : List X) → (a ≡ true → b ≡ true → ⊥) → IsPermutation all (us ++ vs) → IsPermutation (cond (a || b) (x ∷ all) all) (cond a (x ∷ us) us ++ cond b (x ∷ vs) vs)

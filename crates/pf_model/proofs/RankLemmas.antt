@@ -1,7 +1,8 @@
 -- The particles of some ranks: of one alone, and of all.
 use Rattle.std.proofs.Common.{◌≡◌, ℕ, ◌+◌, ◌-◌, ◌*◌, ◌<◌, ◌≤◌, Bool, true, false, ◌||◌, List, [], ◌∷◌, length, drop, nat_eq, refl, sym, ◌∙◌, ap, arith}
 use Rattle.std.specs.Prelude.{nat_le}
-use Rattle.std.specs.List.{filter, list_any, Contains}
+use Rattle.std.specs.List.{filter, flat_map, range_with_len, list_any, Contains}
+use Rattle.std.proofs.lemmas.List.Sorted.{IsPermutation-trans}
 use Rattle.std.proofs.lemmas.Bool.{cond-true}
 use Rattle.std.proofs.lemmas.Nat.{mul-add-lt}
 use Rattle.std.proofs.lemmas.Cmp.{nat_eq_equiv}
@@ -14,7 +15,12 @@ use Rattle.pf_geom.specs.Position.{Position}
 use Rattle.pf_model.specs.Particle.{Particle}
 use Rattle.pf_model.specs.Division.{Division, IsDivision, rank_count}
 use Rattle.pf_model.specs.Domains.{Multisection, piece_at, cuts_in_slab, cuts_in_column, cut_before, cuts_of, slab_of, owner_by, cuts_for, owner, particles_of}
-use Rattle.pf_model.specs.DomainLaws.{OwnersAreRanks, OwnersByCutsAreRanks, OneRankHasItsOwn, AllRanksHaveAll, LoneRanksHaveAll}
+use Rattle.pf_model.specs.DomainLaws.{OwnersAreRanks, OwnersByCutsAreRanks, OneRankHasItsOwn, AllRanksHaveAll, LoneRanksHaveAll, RanksInTurnHaveAll, RanksByIdHaveAll}
+use Rattle.pf_model.specs.IdLaws.{OrdersByIdHaveAll}
+use Rattle.pf_model.specs.Particles.{by_id}
+use Rattle.pf_model.proofs.RisingLemmas.{parts_by_key_are_all}
+use Rattle.pf_model.proofs.PermutationLemmas.{each_permutes}
+use Rattle.pf_model.proofs.ReuseLemmas.{some_have_distinct_ids}
 
 pub length-cuts_of : (along : Position → ℕ) (js : List Particle) (m : ℕ) → length (cuts_of along js m) ≡ m - 1
 length-cuts_of along js m = length-map-range_with_len (cut_before along js m) 1 (m - 1)
@@ -66,6 +72,17 @@ filter_all test all (x ∷ xs) = cond-true (test x) (x ∷ filter test xs) (filt
 pub all_ranks : AllRanksHaveAll
 all_ranks g js ranks h whole =
     filter_all (λ j. list_any (nat_eq (owner g js j.at)) ranks) (λ j. list_any-from_Contains nat_eq_equiv (owner g js j.at) ranks (whole (owner g js j.at) (owners_are_ranks g js j.at h))) js
+
+pub ranks_in_turn_have_all : RanksInTurnHaveAll
+ranks_in_turn_have_all g js division = parts_by_key_are_all (λ (j : Particle). owner g js j.at) (rank_count g) js (λ j. owners_are_ranks g js j.at division)
+
+pub ranks_by_id_have_all : OrdersByIdHaveAll → RanksByIdHaveAll
+ranks_by_id_have_all law g js division distinct =
+    let ranks : List ℕ = range_with_len 0 (rank_count g) in
+    IsPermutation-trans js (flat_map (particles_of g js) ranks) (flat_map (λ rank. by_id (particles_of g js rank)) ranks)
+    (ranks_in_turn_have_all g js division)
+    (each_permutes (particles_of g js) (λ rank. by_id (particles_of g js rank))
+    (λ rank. law (particles_of g js rank) (some_have_distinct_ids (λ j. nat_eq (owner g js j.at) rank) js distinct)) ranks)
 
 lone_rank_has_all : (g : Division) (js : List Particle) → IsDivision g → rank_count g ≡ 1 → particles_of g js 0 ≡ js
 lone_rank_has_all g js division one =

@@ -1,13 +1,16 @@
 -- Laws of domains: who owns what.
 use Rattle.std.specs.Prelude.{◌≡◌, ℕ, ◌<◌, ◌↔◌, List, [], ◌∷◌, ◌++◌, All, Contains, IsPermutation}
+use Rattle.std.specs.List.{range_with_len, flat_map}
+use Rattle.std.specs.List.Sorted.{IsNonDecreasing}
 use Rattle.pf_geom.specs.Position.{Position, IsPosition}
 use Rattle.pf_geom.specs.Bounds.{IsBox, IsInBox}
 use Rattle.pf_model.specs.Particle.{Particle}
-use Rattle.pf_model.specs.Particles.{HaveDistinctIds}
+use Rattle.pf_model.specs.Particles.{HaveDistinctIds, by_id}
 use Rattle.pf_model.specs.Criterion.{Criterion}
 use Rattle.pf_model.specs.Division.{Division, IsDivision, rank_count}
 use Rattle.pf_model.specs.Domains.{Multisection, IsMultisection, owner_by, box_by, cuts_for, owner, particles_of}
-use Rattle.pf_model.specs.Domains.{domain_box}
+use Rattle.pf_model.specs.Domains.{domain_box, comes_first, coordinates_of, AreInOrderAlong, cuts_of}
+use Rattle.pf_model.specs.Order.{in_order_once}
 use Rattle.pf_model.specs.EssentialTree.{essential_tree, particles_of_ranks}
 
 -- the owner of a position is one of the ranks
@@ -37,7 +40,23 @@ DomainBoxesHoldWhatIsOwned =
     IsBox (domain_box g js (owner g js q)) × ((p : Position) → IsPosition p → (owner g js p ≡ owner g js q) ↔
     IsInBox p (domain_box g js (owner g js q)))
 
--- the order of particles changes no cut
+-- particles have one order of (coordinate, id) along an axis, whatever the order in which they are given
+abbrev pub OrdersAlongAreOne : Type 0
+OrdersAlongAreOne =
+    (along : Position → ℕ) (js ks : List Particle) → IsPermutation js ks → AreInOrderAlong along ks →
+    in_order_once (comes_first along) js ≡ ks
+
+-- the coordinates ascend in it
+abbrev pub CoordinatesAscend : Type 0
+CoordinatesAscend = (along : Position → ℕ) (js : List Particle) → IsNonDecreasing (coordinates_of along js)
+
+-- the order of particles changes no cut along an axis
+abbrev pub CutsAlongIgnoreOrder : Type 0
+CutsAlongIgnoreOrder =
+    (along : Position → ℕ) (js ks : List Particle) (m : ℕ) → HaveDistinctIds js → IsPermutation js ks →
+    cuts_of along js m ≡ cuts_of along ks m
+
+-- nor any cut of the cube
 abbrev pub CutsIgnoreOrder : Type 0
 CutsIgnoreOrder =
     (g : Division) (js ks : List Particle) → HaveDistinctIds js → IsPermutation js ks → cuts_for g js ≡ cuts_for g ks
@@ -72,6 +91,18 @@ abbrev pub AllRanksHaveAll : Type 0
 AllRanksHaveAll =
     (g : Division) (js : List Particle) (ranks : List ℕ) → IsDivision g →
     ((rank : ℕ) → rank < rank_count g → Contains ranks rank) → particles_of_ranks g js ranks ≡ js
+
+-- the particles of the ranks in turn are all, up to their order
+abbrev pub RanksInTurnHaveAll : Type 0
+RanksInTurnHaveAll =
+    (g : Division) (js : List Particle) → IsDivision g →
+    IsPermutation js (flat_map (particles_of g js) (range_with_len 0 (rank_count g)))
+
+-- so they are by id in each rank
+abbrev pub RanksByIdHaveAll : Type 0
+RanksByIdHaveAll =
+    (g : Division) (js : List Particle) → IsDivision g → HaveDistinctIds js →
+    IsPermutation js (flat_map (λ rank. by_id (particles_of g js rank)) (range_with_len 0 (rank_count g)))
 
 -- where there is one rank, it owns every position, and has all particles
 abbrev pub LoneRanksHaveAll : Type 0

@@ -1,9 +1,12 @@
 -- Domains: the multisection of the cube among ranks.
 use Rattle.std.specs.Prelude.{◌≡◌, ℕ, zero, suc, ◌+◌, ◌-◌, ◌*◌, ◌/◌, ◌%◌, ◌^◌, ◌<◌, ◌≤◌, Bool, ◌&&◌, ◌||◌, List}
-use Rattle.std.specs.Prelude.{length, map, filter, take, drop, count_by, slice_index_or, All, nat_lt, nat_le, nat_eq}
+use Rattle.std.specs.Prelude.{length, map, filter, take, drop, count_by, slice_index_or, All, AllPairs, IsTrue, nat_lt, nat_le}
+use Rattle.std.specs.Prelude.{nat_eq}
 use Rattle.std.specs.List.{range_with_len, flat_map}
 use Rattle.std.specs.List.Sorted.{IsNonDecreasing}
-use Rattle.pf_geom.specs.Position.{Position}
+use Rattle.pf_geom.specs.declared.axis.Axis.{Axis}
+use Rattle.pf_geom.specs.declared.axis.Axis.TheVariants.{Y, Z}
+use Rattle.pf_geom.specs.Position.{Position, along}
 use Rattle.pf_geom.specs.Bounds.{Bounds}
 use Rattle.pf_model.specs.Particle.{Particle}
 use Rattle.pf_model.specs.Division.{Division, IsDivision}
@@ -85,6 +88,10 @@ comes_first along p q = nat_lt (along p.at) (along q.at) || (nat_eq (along p.at)
 abbrev pub coordinates_of : (Position → ℕ) → List Particle → List ℕ
 coordinates_of along js = map (λ j. along j.at) (in_order_once (comes_first along) js)
 
+-- each particle comes before all later ones in this order
+abbrev pub AreInOrderAlong : (Position → ℕ) → List Particle → Type 0
+AreInOrderAlong along js = AllPairs (λ i j. IsTrue (comes_first along i j)) js
+
 -- the cut before slab k of m: the coordinate at place floor(n k / m), and 2^30 where there are no particles
 abbrev pub cut_before : (Position → ℕ) → List Particle → ℕ → ℕ → ℕ
 cut_before along js m k = slice_index_or (coordinates_of along js) (length js * k / m) (2 ^ 30)
@@ -92,6 +99,15 @@ cut_before along js m k = slice_index_or (coordinates_of along js) (length js * 
 -- the cuts before the slabs 1 to m - 1
 abbrev pub cuts_of : (Position → ℕ) → List Particle → ℕ → List ℕ
 cuts_of along js m = map (cut_before along js m) (range_with_len 1 (m - 1))
+
+-- the particles in a slab between cuts along an axis
+abbrev pub in_slab_along : Axis → List ℕ → List Particle → ℕ → List Particle
+in_slab_along axis cuts js slab = filter (λ j. nat_eq (slab_of cuts (along axis j.at)) slab) js
+
+-- the cuts along z in the columns that the particles of a slab make
+abbrev pub column_cuts : Division → List Particle → List ℕ
+column_cuts g js =
+    flat_map (λ iy. cuts_of (along Z) (in_slab_along Y (cuts_of (along Y) js g.ny) js iy) g.nz) (range_with_len 0 g.ny)
 
 -- the cuts along x, over all particles
 abbrev pub x_cuts : Division → List Particle → List ℕ

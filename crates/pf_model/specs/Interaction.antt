@@ -51,6 +51,11 @@ comes_before (Cell c m) (One q) = true
 comes_before (One p) (Cell d n) = false
 comes_before (One p) (One q) = nat_lt p.id q.id
 
+-- the place of an entry: cells by level and key, and after them, past the deepest level, particles by id
+abbrev pub entry_place : Entry → ℕ × ℕ
+entry_place (Cell c m) = (c.level, c.key)
+entry_place (One p) = (DEEPEST + 1, p.id)
+
 -- each entry comes before all later ones
 abbrev pub IsInListOrder : List Entry → Type 0
 IsInListOrder es = AllPairs (λ e f. IsTrue (comes_before e f)) es

@@ -24,6 +24,7 @@ pub mod Merging
 pub mod MergingLaws
 pub mod Sufficiency
 pub mod ParticleLaws
+pub mod OrderLaws
 pub use Rattle.pf_geom.specs.Position
 pub use Rattle.pf_geom.specs.Bounds
 pub use Rattle.pf_geom.specs.Octant

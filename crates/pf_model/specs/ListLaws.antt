@@ -1,5 +1,6 @@
 -- Laws of interaction lists.
-use Rattle.std.specs.Prelude.{◌≡◌, ℕ, ◌<◌, ◌≤◌, ◌↔◌, List, length, Some, None, Contains, IsPermutation, slice_index_or}
+use Rattle.std.specs.Prelude.{◌≡◌, ℕ, ◌<◌, ◌≤◌, ◌↔◌, ◌⊎◌, ⊤, List, length, map, Some, None, All, Contains}
+use Rattle.std.specs.Prelude.{IsTrue, IsPermutation, slice_index_or}
 use Rattle.pf_geom.specs.declared.cell.TheConstants.{DEEPEST}
 use Rattle.pf_geom.specs.Position.{Position, IsPosition}
 use Rattle.pf_geom.specs.Bounds.{Bounds, IsBox, IsInBox}
@@ -7,12 +8,13 @@ use Rattle.pf_geom.specs.Octant.{Octant, IsCell, cell_at, ancestor_at}
 use Rattle.pf_model.specs.declared.entry.Entry.{Entry}
 use Rattle.pf_model.specs.declared.entry.Entry.TheVariants.{Cell, One}
 use Rattle.pf_model.specs.Particle.{Particle}
-use Rattle.pf_model.specs.Particles.{HaveDistinctIds}
+use Rattle.pf_model.specs.Particles.{HaveDistinctIds, by_id}
 use Rattle.pf_model.specs.Criterion.{Criterion, IsCriterion, Passes}
 use Rattle.pf_model.specs.Totals.{Totals}
 use Rattle.pf_model.specs.Sums.{moment_of}
 use Rattle.pf_model.specs.Group.{particles_in}
-use Rattle.pf_model.specs.Interaction.{level_of, entry_of, IsInListOrder, list_of, members_of}
+use Rattle.pf_model.specs.OrderLaws.{IsStrictOrder}
+use Rattle.pf_model.specs.Interaction.{level_of, entry_of, comes_before, entry_place, IsInListOrder, list_of, members_of}
 
 -- the position's cell passes at this level, and at no lower one
 pub record IsFirstPassing (t : Criterion) (box : Bounds) (p : Position) (level : ℕ) : Type 0 where
@@ -90,3 +92,38 @@ abbrev pub ParticlesInTheBoxAreNear : Type 0
 ParticlesInTheBoxAreNear =
     (t : Criterion) (box : Bounds) (p : Position) → IsCriterion t → IsBox box → IsPosition p → IsInBox p box →
     NonePasses t box p
+
+-- where none of the cells of any particle passes, the list is the particles by id
+abbrev pub ListsOfNearAreParticles : Type 0
+ListsOfNearAreParticles =
+    (t : Criterion) (box : Bounds) (js : List Particle) → All (λ j. NonePasses t box j.at) js →
+    list_of t box js ≡ map One (by_id js)
+
+-- the order of entries is strict
+abbrev pub EntryOrderIsStrict : Type 0
+EntryOrderIsStrict = IsStrictOrder comes_before
+
+-- an entry that is a cell has a level that there is
+abbrev pub HasLevel : Entry → Type 0
+HasLevel (Cell c m) = c.level ≤ DEEPEST
+HasLevel (One p) = ⊤
+
+-- so has each entry that particles lead to
+abbrev pub EntriesHaveLevels : Type 0
+EntriesHaveLevels = (t : Criterion) (box : Bounds) (js : List Particle) (j : Particle) → HasLevel (entry_of t box js j)
+
+-- one place is lower than another
+abbrev pub IsLowerPlace : ℕ × ℕ → ℕ × ℕ → Type 0
+IsLowerPlace a b = (a.0 < b.0) ⊎ ((a.0 ≡ b.0) × (a.1 < b.1))
+
+-- an entry comes before another exactly where its place is lower
+abbrev pub EntriesStandByPlace : Type 0
+EntriesStandByPlace =
+    (e f : Entry) → HasLevel e → HasLevel f → IsTrue (comes_before e f) ↔ IsLowerPlace (entry_place e) (entry_place f)
+
+-- entries of particles at one place are one
+abbrev pub EntriesAtOnePlaceAreOne : Type 0
+EntriesAtOnePlaceAreOne =
+    (t : Criterion) (box : Bounds) (js : List Particle) (i j : Particle) → HaveDistinctIds js → Contains js i →
+    Contains js j → entry_place (entry_of t box js i) ≡ entry_place (entry_of t box js j) →
+    entry_of t box js i ≡ entry_of t box js j

@@ -1,5 +1,5 @@
 -- Laws of the opening test.
-use Rattle.std.specs.Prelude.{◌≤◌}
+use Rattle.std.specs.Prelude.{◌≡◌, ◌≤◌}
 use Rattle.pf_geom.specs.Position.{Position, IsPosition}
 use Rattle.pf_geom.specs.Bounds.{Bounds, IsBox, IsInBox, IsWithin}
 use Rattle.pf_geom.specs.Octant.{Octant, IsCell, IsIn, IsInside}
@@ -23,3 +23,8 @@ abbrev pub PassingCellsLieApart : Type 0
 PassingCellsLieApart =
     (t : Criterion) (box : Bounds) (c : Octant) → IsCriterion t → IsBox box → IsCell c → Passes box c t →
     (1 ≤ gap2_to t.edge box c) × ((p : Position) → IsPosition p → IsInBox p box → IsIn p c → ⊥)
+
+-- at the opening angle 0 no cell passes
+abbrev pub NothingPassesAtZero : Type 0
+NothingPassesAtZero =
+    (t : Criterion) (box : Bounds) (c : Octant) → IsCriterion t → t.a ≡ 0 → Passes box c t → ⊥

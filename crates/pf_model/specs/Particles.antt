@@ -1,5 +1,5 @@
 -- Lists of particles.
-use Rattle.std.specs.Prelude.{◌≤◌, List, length, map, nat_eq, nat_lt, IsPermutation}
+use Rattle.std.specs.Prelude.{◌≤◌, ◌<◌, List, AllPairs, length, map, nat_eq, nat_lt, IsPermutation}
 use Rattle.std.specs.List.{IsDistinct, IsDistinct-prop}
 use Rattle.std.proofs.Props.{props}
 use Rattle.pf_model.specs.declared.limits.TheConstants.{MOST_PARTICLES}
@@ -22,6 +22,10 @@ pub record AreBodies (js : List Particle) : Type 0 where
 -- this holds in one way
 pub AreBodies-prop : (js : List Particle) → IsProp (AreBodies js)
 AreBodies-prop js = hlevel (props, IsDistinct-prop nat_eq (map (λ j. j.id) js))
+
+-- ids ascend
+abbrev pub AreInIdOrder : List Particle → Type 0
+AreInIdOrder js = AllPairs (λ i j. i.id < j.id) js
 
 -- the particles in the order of their ids
 abbrev pub by_id : List Particle → List Particle

@@ -4,7 +4,11 @@
 ghost use Rattle.pf_model.specs.DomainLaws.{OwnersAreRanks, OwnersByCutsAreRanks, OneRankHasItsOwn, AllRanksHaveAll};
 ghost use Rattle.pf_model.specs.DomainLaws.{LoneRanksHaveAll, CutsAscend, BoxesByCutsHoldWhatIsOwned};
 ghost use Rattle.pf_model.specs.DomainLaws.{DomainBoxesHoldWhatIsOwned, CutsIgnoreOrder, DomainsIgnoreOrder};
-ghost use Rattle.pf_model.specs.DomainLaws.{EssentialTreesIgnoreOrder, RanksHaveTheirOwn};
+ghost use Rattle.pf_model.specs.DomainLaws.{EssentialTreesIgnoreOrder, RanksHaveTheirOwn, RanksInTurnHaveAll};
+ghost use Rattle.pf_model.specs.DomainLaws.{RanksByIdHaveAll, OrdersAlongAreOne, CoordinatesAscend};
+ghost use Rattle.pf_model.specs.DomainLaws.{CutsAlongIgnoreOrder};
+
+use crate::id_laws::orders_by_id_have_all;
 
 /// The owner of a position is one of the ranks.
 pub fn owners_are_ranks()
@@ -46,6 +50,21 @@ pub fn domain_boxes_hold_what_is_owned()
     ensures { DomainBoxesHoldWhatIsOwned }
 {}
 
+/// Particles have one order of (coordinate, id) along an axis.
+pub fn orders_along_are_one()
+    ensures { OrdersAlongAreOne }
+{}
+
+/// The coordinates ascend in this order.
+pub fn coordinates_ascend()
+    ensures { CoordinatesAscend }
+{}
+
+/// The order of particles changes no cut along an axis.
+pub fn cuts_along_ignore_order()
+    ensures { CutsAlongIgnoreOrder }
+{}
+
 /// The order of particles changes no cut.
 pub fn cuts_ignore_order()
     ensures { CutsIgnoreOrder }
@@ -65,3 +84,15 @@ pub fn essential_trees_ignore_order()
 pub fn ranks_have_their_own()
     ensures { RanksHaveTheirOwn }
 {}
+
+/// The particles of the ranks in turn are all.
+pub fn ranks_in_turn_have_all()
+    ensures { RanksInTurnHaveAll }
+{}
+
+/// So they are by id in each rank.
+pub fn ranks_by_id_have_all()
+    ensures { RanksByIdHaveAll }
+{
+    orders_by_id_have_all();
+}

@@ -3,7 +3,9 @@
 
 ghost use Rattle.pf_model.specs.ListLaws.{LevelsAreLeast, ListsHoldTheirEntries, EachIsInOneEntry, ListsIgnoreOrder};
 ghost use Rattle.pf_model.specs.ListLaws.{ListsAreShort, FirstCellsHoldTheirMembers, ListsHoldFirstCells};
-ghost use Rattle.pf_model.specs.ListLaws.{ListsHoldNearParticles, ParticlesInTheBoxAreNear};
+ghost use Rattle.pf_model.specs.ListLaws.{ListsHoldNearParticles, ParticlesInTheBoxAreNear, ListsOfNearAreParticles};
+ghost use Rattle.pf_model.specs.ListLaws.{EntryOrderIsStrict, EntriesHaveLevels, EntriesStandByPlace};
+ghost use Rattle.pf_model.specs.ListLaws.{EntriesAtOnePlaceAreOne};
 
 use crate::opening_laws::passing_cells_lie_apart;
 use pf_geom::{cells_of_a_position_nest, positions_have_cells, positions_share_lower_cells};
@@ -60,3 +62,28 @@ pub fn particles_in_the_box_are_near()
     passing_cells_lie_apart();
     positions_have_cells();
 }
+
+/// Where no cell passes, the list is the particles by id.
+pub fn lists_of_near_are_particles()
+    ensures { ListsOfNearAreParticles }
+{}
+
+/// The order of entries is strict.
+pub fn entry_order_is_strict()
+    ensures { EntryOrderIsStrict }
+{}
+
+/// An entry that particles lead to is a particle, or a cell of a level that there is.
+pub fn entries_have_levels()
+    ensures { EntriesHaveLevels }
+{}
+
+/// An entry comes before another exactly where its place is lower.
+pub fn entries_stand_by_place()
+    ensures { EntriesStandByPlace }
+{}
+
+/// Entries of particles at one place are one.
+pub fn entries_at_one_place_are_one()
+    ensures { EntriesAtOnePlaceAreOne }
+{}

@@ -2,6 +2,7 @@
 // proof needs a law calls its function.
 
 ghost use Rattle.pf_model.specs.OpeningLaws.{CellsPassForBoxesInside, CellsInsidePass, PassingCellsLieApart};
+ghost use Rattle.pf_model.specs.OpeningLaws.{NothingPassesAtZero};
 
 use pf_geom::{
     cells_nest, gaps_grow_as_boxes_shrink, gaps_grow_as_cells_shrink, gaps_vanish_where_shared,
@@ -28,3 +29,8 @@ pub fn passing_cells_lie_apart()
 {
     gaps_vanish_where_shared();
 }
+
+/// At the opening angle 0 no cell passes the opening test.
+pub fn nothing_passes_at_zero()
+    ensures { NothingPassesAtZero }
+{}
