@@ -6,7 +6,7 @@ use Rattle.std.proofs.lemmas.Bool.{cases_Bool, cond-true, cond-false, cond_both,
 use Rattle.std.proofs.lemmas.List.Folds.{flat_map-map}
 use Rattle.std.proofs.lemmas.List.Elements.{filter-append}
 use Rattle.std.proofs.lemmas.List.Sums.{count_by-le-length, length-filter}
-use Rattle.std.proofs.lemmas.List.Sorted.{IsPermutation-trans, IsPermutation-append_right, IsPermutation-filter_both, length_permutation}
+use Rattle.std.proofs.lemmas.List.Sorted.{IsPermutation-refl, IsPermutation-trans, IsPermutation-append_right, IsPermutation-filter_both, length_permutation}
 use Rattle.pf_model.specs.Particle.{Particle}
 use Rattle.pf_model.specs.ParticleLaws.{DistinctIdsIgnoreOrder, SomeHaveDistinctIds}
 use Rattle.pf_model.specs.IdLaws.{OrdersByIdAreOne, OrdersByIdHaveDistinctIds, OrdersByIdKeepParticles}
@@ -14,7 +14,7 @@ use Rattle.pf_model.specs.Division.{rank_count}
 use Rattle.pf_model.specs.Domains.{Multisection, owner_by}
 use Rattle.exchange.specs.States.{Holding, Package, owned_by, left_with, parcel_for, joined}
 use Rattle.exchange.specs.ExchangeLaws.{AreOfAllRanks, particles_held, parcels_to, EachRankHasItsOwn, EachParticleIsWithItsOwner}
-use Rattle.exchange.proofs.PermutationLemmas.{IsPermutation-flat_map}
+use Rattle.pf_model.specs.OrderLaws.{PartsKeepPermutations}
 
 filter-flat_map : {E F : Type 0} (p : F → Bool) (f : E → List F) (xs : List E) → filter p (flat_map f xs) ≡ flat_map (λ x. filter p (f x)) xs
 filter-flat_map p f [] = refl
@@ -60,30 +60,30 @@ only_one (j ∷ hs) start (suc len) h e (suc k, within, is) =
     ∙ only_one hs (start + 1) len h tail (k, omega arith, is)
 
 -- what a rank owns of all particles is what is left to it and what comes
-owned_is_joined : (s : Multisection) (hs : List Holding) (h : Holding) (parcels : List Package) → AreOfAllRanks s hs → Contains hs h → IsPermutation (parcels_to s hs h.rank) parcels →
+owned_is_joined : PartsKeepPermutations Holding Particle → PartsKeepPermutations Package Particle → (s : Multisection) (hs : List Holding) (h : Holding) (parcels : List Package) → AreOfAllRanks s hs → Contains hs h → IsPermutation (parcels_to s hs h.rank) parcels →
     IsPermutation (owned_by s h.rank (particles_held hs)) (joined (left_with s h).bodies parcels)
-owned_is_joined s hs h parcels ranks there come =
+owned_is_joined of_states of_parcels s hs h parcels ranks there come =
     let own = λ (k : Holding). owned_by s h.rank k.bodies in
     let here = λ (k : Holding). nat_eq k.rank h.rank in
     let others : List Holding = filter (λ k. not (nat_eq k.rank h.rank)) hs in
     let each : owned_by s h.rank (particles_held hs) ≡ flat_map own hs = filter-flat_map (λ (j : Particle). nat_eq (owner_by s j.at) h.rank) (λ (k : Holding). k.bodies) hs in
     let split : IsPermutation (flat_map own hs) (flat_map own (filter here hs ++ others)) =
-    IsPermutation-flat_map own hs (filter here hs ++ others) (IsPermutation-filter_both here (λ (k : Holding). not (nat_eq k.rank h.rank)) (λ k. refl) hs) in
+    of_states own own hs (filter here hs ++ others) (λ k. IsPermutation-refl (own k)) (IsPermutation-filter_both here (λ (k : Holding). not (nat_eq k.rank h.rank)) (λ k. refl) hs) in
     let parts : flat_map own (filter here hs ++ others) ≡ own h ++ flat_map own others =
     ap (λ (l : List Holding). flat_map own (l ++ others)) (only_one hs 0 (rank_count s.grid) h ranks there) in
     let sent : flat_map (λ (p : Package). p.bodies) (parcels_to s hs h.rank) ≡ flat_map own others = flat_map-map (λ (p : Package). p.bodies) (λ (k : Holding). parcel_for s k h.rank) others in
     let arrived : IsPermutation (flat_map own others) (flat_map (λ (p : Package). p.bodies) parcels) =
-    subst (λ (l : List Particle). IsPermutation l (flat_map (λ (p : Package). p.bodies) parcels)) sent (IsPermutation-flat_map (λ (p : Package). p.bodies) (parcels_to s hs h.rank) parcels come) in
+    subst (λ (l : List Particle). IsPermutation l (flat_map (λ (p : Package). p.bodies) parcels)) sent (of_parcels (λ p. p.bodies) (λ p. p.bodies) (parcels_to s hs h.rank) parcels (λ p. IsPermutation-refl p.bodies) come) in
     let whole : IsPermutation (flat_map own hs) (own h ++ flat_map own others) = subst (IsPermutation (flat_map own hs)) parts split in
     subst (λ (l : List Particle). IsPermutation l (joined (left_with s h).bodies parcels)) (sym each)
     (IsPermutation-trans (flat_map own hs) (own h ++ flat_map own others) (joined (left_with s h).bodies parcels) whole (IsPermutation-append_right (own h) (flat_map own others) (flat_map (λ (p : Package). p.bodies) parcels) arrived))
 
-pub each_rank_has_its_own : DistinctIdsIgnoreOrder → OrdersByIdAreOne → SomeHaveDistinctIds → EachRankHasItsOwn
-each_rank_has_its_own ignore one some s hs h parcels ranks bodies there come =
+pub each_rank_has_its_own : DistinctIdsIgnoreOrder → OrdersByIdAreOne → SomeHaveDistinctIds → PartsKeepPermutations Holding Particle → PartsKeepPermutations Package Particle → EachRankHasItsOwn
+each_rank_has_its_own ignore one some of_states of_parcels s hs h parcels ranks bodies there come =
     let test = λ (j : Particle). nat_eq (owner_by s j.at) h.rank in
     let owned : List Particle = owned_by s h.rank (particles_held hs) in
     let all : List Particle = joined (left_with s h).bodies parcels in
-    let same = owned_is_joined s hs h parcels ranks there come in
+    let same = owned_is_joined of_states of_parcels s hs h parcels ranks there come in
     let apart = some test (particles_held hs) bodies.distinct in
     let kept = length-filter test (particles_held hs) in
     let most = count_by-le-length test (particles_held hs) in

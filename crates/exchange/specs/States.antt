@@ -1,8 +1,9 @@
 -- What ranks have, and the parcels between them.
-use Rattle.std.specs.Prelude.{ℕ, ◌<◌, not, List, ◌++◌, map, filter, nat_eq, AllPairs}
+use Rattle.std.specs.Prelude.{ℕ, not, List, ◌++◌, map, filter, nat_eq}
 use Rattle.std.specs.List.{range_with_len, flat_map}
 use Rattle.pf_model.specs.Particle.{Particle}
 use Rattle.pf_model.specs.Particles.{by_id}
+pub use Rattle.pf_model.specs.Particles.{AreInIdOrder}
 use Rattle.pf_model.specs.Division.{rank_count}
 use Rattle.pf_model.specs.Domains.{Multisection, owner_by}
 
@@ -16,10 +17,6 @@ pub record Package : Type 0 where
   pub src : ℕ
   pub dst : ℕ
   pub bodies : List Particle
-
--- ids ascend
-abbrev pub AreInIdOrder : List Particle → Type 0
-AreInIdOrder js = AllPairs (λ i j. i.id < j.id) js
 
 -- the particles that a rank owns by the cuts
 abbrev pub owned_by : Multisection → ℕ → List Particle → List Particle

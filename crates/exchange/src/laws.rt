@@ -3,9 +3,12 @@
 
 ghost use Rattle.exchange.specs.ExchangeLaws.{EachRankHasItsOwn, EachParticleIsWithItsOwner, RanksTogetherHaveAll};
 
+use crate::parcel::Parcel;
+use crate::rank_state::RankState;
 use pf_model::{
-    distinct_ids_ignore_order, orders_by_id_are_one, orders_by_id_have_distinct_ids,
-    orders_by_id_keep_particles, owners_by_cuts_are_ranks, some_have_distinct_ids,
+    Body, distinct_ids_ignore_order, orders_by_id_are_one, orders_by_id_have_all,
+    orders_by_id_have_distinct_ids, orders_by_id_keep_particles, owners_by_cuts_are_ranks,
+    parts_by_key_are_all, parts_keep_permutations, some_have_distinct_ids,
 };
 
 /// After all ranks left and settled, each has exactly what it owns of all particles.
@@ -15,6 +18,8 @@ pub fn each_rank_has_its_own()
     distinct_ids_ignore_order();
     orders_by_id_are_one();
     some_have_distinct_ids();
+    parts_keep_permutations::<RankState, Body>();
+    parts_keep_permutations::<Parcel, Body>();
 }
 
 /// So each particle is with its owner, once, and with no other rank.
@@ -32,4 +37,7 @@ pub fn ranks_together_have_all()
 {
     owners_by_cuts_are_ranks();
     some_have_distinct_ids();
+    parts_by_key_are_all::<Body>();
+    orders_by_id_have_all();
+    parts_keep_permutations::<u32, Body>();
 }

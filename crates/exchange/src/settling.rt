@@ -4,7 +4,7 @@ ghost use Rattle.exchange.specs.States.{AreInIdOrder, joined, settled};
 
 use crate::parcel::Parcel;
 use crate::rank_state::RankState;
-use pf_model::{Body, distinct_ids_ignore_order, orders_by_id_are_one};
+use pf_model::{Body, ascending_is_by_id, distinct_ids_ignore_order, distinct_keys_rise};
 use pf_num::OutOfMemory;
 use std::alloc::Global;
 
@@ -15,7 +15,7 @@ pub fn settle(_alloc: Global, s: RankState, parcels: Vec<Parcel>) -> Result<Rank
     ensures value { IfOk result (λ after. after ≡ settled s parcels.items) }
     ensures same { IfOk result (λ after. IsPermutation (joined s.bodies parcels.items) after.bodies) }
 {
-    orders_by_id_are_one();
+    ascending_is_by_id();
     let RankState { rank, mut bodies } = s;
     for parcel in &parcels {
         bodies.extend_from_slice(&parcel.bodies)?;
@@ -31,5 +31,6 @@ fn sort_by_id(bodies: &mut [Body])
     ensures in_order { AreInIdOrder bodies.new }
 {
     distinct_ids_ignore_order();
+    distinct_keys_rise::<Body>();
     bodies.sort_unstable_by_key(|body| body.id);
 }
