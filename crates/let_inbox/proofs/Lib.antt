@@ -2,3 +2,4 @@ mod Keeps
 mod Settles
 mod Sources
 mod Views
+mod OtherLemmas

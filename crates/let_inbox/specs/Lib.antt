@@ -1,3 +1,4 @@
 pub mod Rule
 pub mod Sources
 pub mod Tokens
+pub mod Laws

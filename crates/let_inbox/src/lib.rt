@@ -3,10 +3,14 @@
 #![tactic(auto)]
 
 mod inbox;
+mod laws;
 mod named;
 mod rule;
 mod tokens;
 
 pub use inbox::Inbox;
+pub use laws::{
+    others_are_few, others_are_the_sources, others_ascend, others_grow, others_stand_in_turn,
+};
 pub use named::Named;
 pub use tokens::{Putter, Spent, Taker, taken};
