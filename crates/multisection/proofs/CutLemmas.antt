@@ -14,11 +14,11 @@ use Rattle.pf_model.specs.Particle.{Particle}
 use Rattle.pf_model.specs.Particles.{HaveDistinctIds, AreBodies}
 use Rattle.pf_model.specs.ParticleLaws.{DistinctIdsIgnoreOrder, SomeHaveDistinctIds}
 use Rattle.pf_model.specs.Division.{Division}
-use Rattle.pf_model.specs.Domains.{comes_first, slab_of, cuts_of, y_cuts, z_cuts, cuts_for}
-use Rattle.pf_model.specs.DomainLaws.{CutsIgnoreOrder}
-use Rattle.multisection.specs.Sites.{site_of, along, IsInOrder, in_slab_of, column_cuts}
-use Rattle.multisection.proofs.OrderLemmas.{in_order-ordered, cuts_of-same, cuts_of-map, ids_kept}
-use Rattle.multisection.proofs.PermutationLemmas.{IsPermutation-filter}
+use Rattle.pf_model.specs.Domains.{slab_of, cuts_of, y_cuts, z_cuts, cuts_for}
+use Rattle.pf_model.specs.DomainLaws.{OrdersAlongAreOne, CutsAlongIgnoreOrder}
+use Rattle.pf_model.specs.OrderLaws.{TestsKeepPermutations}
+use Rattle.multisection.specs.Sites.{site_of, along, IsInOrder, in_slab_along, column_cuts}
+use Rattle.multisection.proofs.OrderLemmas.{cuts_of-map, ids_kept}
 use Rattle.multisection.proofs.RunLemmas.{slab_at, filter-map}
 
 -- the element at a place of a list
@@ -31,11 +31,11 @@ abbrev pub cut_in : Axis → List Particle → ℕ → ℕ → ℕ
 cut_in axis js m k = get_or (map (λ (j : Particle). along axis j.at) js) (length js * k / m) (2 ^ 30)
 
 -- the cuts of particles are read off them when they stand in order
-pub cuts_read : CutsIgnoreOrder → (axis : Axis) (js ks : List Particle) (m : ℕ) → HaveDistinctIds js → IsPermutation js ks → IsInOrder axis ks → map (cut_in axis ks m) (range_with_len 1 (m - 1)) ≡ cuts_of (along axis) js m
-cuts_read law axis js ks m distinct same ordered =
-    let sorted = in_order-ordered (comes_first (along axis)) ks ordered in
-    sym (ap (λ (ps : List Particle). map (λ k. get_or (map (λ (j : Particle). along axis j.at) ps) (length ks * k / m) (2 ^ 30)) (range_with_len 1 (m - 1))) sorted)
-    ∙ sym (cuts_of-same law axis js ks m distinct same)
+pub cuts_read : OrdersAlongAreOne → (axis : Axis) (js ks : List Particle) (m : ℕ) → IsPermutation js ks → IsInOrder axis ks → map (cut_in axis ks m) (range_with_len 1 (m - 1)) ≡ cuts_of (along axis) js m
+cuts_read law axis js ks m same ordered =
+    let sorted = law (along axis) js ks same ordered in
+    let long = sym (length_permutation js ks same) in
+    sym (λ i. map (λ k. get_or (map (λ (j : Particle). along axis j.at) (sorted i)) (long i * k / m) (2 ^ 30)) (range_with_len 1 (m - 1)))
 
 pub cuts_more : (axis : Axis) (js : List Particle) (m k : ℕ) (before after : List ℕ) (cut : ℕ) → 1 ≤ k → before ≡ map (cut_in axis js m) (range_with_len 1 (k - 1)) → cut ≡ cut_in axis js m k → after ≡ before ++ cut ∷ [] → after ≡ map (cut_in axis js m) (range_with_len 1 (k + 1 - 1))
 cuts_more axis js m k before after cut some are is pushed =
@@ -93,7 +93,7 @@ joined_more f n before after piece were is joined =
 
 -- the particles that lie in one column of a slab
 abbrev pub in_column_of : Division → List Particle → ℕ → List Particle
-in_column_of g js iy = in_slab_of Y (cuts_of (along Y) js g.ny) js iy
+in_column_of g js iy = in_slab_along Y (cuts_of (along Y) js g.ny) js iy
 
 -- what the run of a slab is
 pub record IsRun (js run : List Particle) : Type 0 where
@@ -102,23 +102,23 @@ pub record IsRun (js run : List Particle) : Type 0 where
   pub distinct_run : HaveDistinctIds run
   pub few : length run ≤ length js
 
-pub run_of_slab : DistinctIdsIgnoreOrder → SomeHaveDistinctIds → (axis : Axis) (cuts : List ℕ) (js sorted run : List Particle) (k : ℕ) → HaveDistinctIds js → IsPermutation js sorted → run ≡ in_slab_of axis cuts sorted k → IsRun (in_slab_of axis cuts js k) run
-run_of_slab ignore some axis cuts js sorted run k distinct same is =
+pub run_of_slab : DistinctIdsIgnoreOrder → SomeHaveDistinctIds → TestsKeepPermutations Particle → (axis : Axis) (cuts : List ℕ) (js sorted run : List Particle) (k : ℕ) → HaveDistinctIds js → IsPermutation js sorted → run ≡ in_slab_along axis cuts sorted k → IsRun (in_slab_along axis cuts js k) run
+run_of_slab ignore some tests axis cuts js sorted run k distinct same is =
     let slab = λ (j : Particle). nat_eq (slab_at axis cuts j) k in
-    let kept : IsPermutation (filter slab js) run = subst (IsPermutation (filter slab js)) (sym is) (IsPermutation-filter slab js sorted same) in
+    let kept : IsPermutation (filter slab js) run = subst (IsPermutation (filter slab js)) (sym is) (tests slab js sorted same) in
     let apart = some slab js distinct in
     let long = length_permutation (filter slab js) run kept in
     record { same = kept; distinct = apart; distinct_run = ignore (filter slab js) run kept apart; few = omega arith }
 
 -- the columns of a slab ignore the order of its particles
-pub column_cuts-same : CutsIgnoreOrder → SomeHaveDistinctIds → (g : Division) (js ks : List Particle) → HaveDistinctIds js → IsPermutation js ks → column_cuts g js ≡ column_cuts g ks
-column_cuts-same law some g js ks distinct same =
-    let own = cuts_of-same law Y js ks g.ny distinct same in
+pub column_cuts-same : CutsAlongIgnoreOrder → SomeHaveDistinctIds → TestsKeepPermutations Particle → (g : Division) (js ks : List Particle) → HaveDistinctIds js → IsPermutation js ks → column_cuts g js ≡ column_cuts g ks
+column_cuts-same law some tests g js ks distinct same =
+    let own = law (along Y) js ks g.ny distinct same in
     let column = λ (iy : ℕ).
     let in_column = λ (j : Particle). nat_eq (slab_of (cuts_of (along Y) js g.ny) j.at.y) iy in
     let there : filter in_column ks ≡ in_column_of g ks iy = ap (λ (cuts : List ℕ). filter (λ j. nat_eq (slab_of cuts j.at.y) iy) ks) own in
     let cuts : cuts_of (along Z) (in_column_of g js iy) g.nz ≡ cuts_of (along Z) (in_column_of g ks iy) g.nz =
-    cuts_of-same law Z (filter in_column js) (filter in_column ks) g.nz (some in_column js distinct) (IsPermutation-filter in_column js ks same) ∙ ap (λ (l : List Particle). cuts_of (along Z) l g.nz) there in
+    law (along Z) (filter in_column js) (filter in_column ks) g.nz (some in_column js distinct) (tests in_column js ks same) ∙ ap (λ (l : List Particle). cuts_of (along Z) l g.nz) there in
     cuts in
     λ i. flat_map (λ iy. column iy i) (range_with_len 0 g.ny)
 
@@ -126,44 +126,44 @@ column_cuts-same law some g js ks distinct same =
 pub cuts_of-sites : (axis : Axis) (js : List Particle) (m : ℕ) → cuts_of (along axis) (map site_of js) m ≡ cuts_of (along axis) js m
 cuts_of-sites axis js m = cuts_of-map (along axis) (along axis) site_of (λ j. refl) (λ j. refl) js m
 
-pub in_slab_of-sites : (axis : Axis) (cuts : List ℕ) (js : List Particle) (k : ℕ) → in_slab_of axis cuts (map site_of js) k ≡ map site_of (in_slab_of axis cuts js k)
-in_slab_of-sites axis cuts js k = filter-map site_of (λ (j : Particle). nat_eq (slab_at axis cuts j) k) (λ (j : Particle). nat_eq (slab_at axis cuts j) k) (λ j. refl) js
+pub in_slab_along-sites : (axis : Axis) (cuts : List ℕ) (js : List Particle) (k : ℕ) → in_slab_along axis cuts (map site_of js) k ≡ map site_of (in_slab_along axis cuts js k)
+in_slab_along-sites axis cuts js k = filter-map site_of (λ (j : Particle). nat_eq (slab_at axis cuts j) k) (λ (j : Particle). nat_eq (slab_at axis cuts j) k) (λ j. refl) js
 
 pub column_cuts-sites : (g : Division) (js : List Particle) → column_cuts g (map site_of js) ≡ column_cuts g js
 column_cuts-sites g js =
     let own = cuts_of-sites Y js g.ny in
     let column = λ (iy : ℕ).
     let cuts : cuts_of (along Z) (in_column_of g (map site_of js) iy) g.nz ≡ cuts_of (along Z) (in_column_of g js iy) g.nz =
-    ap (λ (l : List ℕ). cuts_of (along Z) (in_slab_of Y l (map site_of js) iy) g.nz) own
-    ∙ ap (λ (l : List Particle). cuts_of (along Z) l g.nz) (in_slab_of-sites Y (cuts_of (along Y) js g.ny) js iy)
+    ap (λ (l : List ℕ). cuts_of (along Z) (in_slab_along Y l (map site_of js) iy) g.nz) own
+    ∙ ap (λ (l : List Particle). cuts_of (along Z) l g.nz) (in_slab_along-sites Y (cuts_of (along Y) js g.ny) js iy)
     ∙ cuts_of-sites Z (in_column_of g js iy) g.nz in
     cuts in
     λ i. flat_map (λ iy. column iy i) (range_with_len 0 g.ny)
 
 -- the cuts that particles make, piece by piece
 pub cuts_from_pieces : (g : Division) (js : List Particle) (x y z : List ℕ) → x ≡ cuts_of (along X) js g.nx →
-    y ≡ flat_map (λ k. cuts_of (along Y) (in_slab_of X x js k) g.ny) (range_with_len 0 g.nx) →
-    z ≡ flat_map (λ k. column_cuts g (in_slab_of X x js k)) (range_with_len 0 g.nx) →
+    y ≡ flat_map (λ k. cuts_of (along Y) (in_slab_along X x js k) g.ny) (range_with_len 0 g.nx) →
+    z ≡ flat_map (λ k. column_cuts g (in_slab_along X x js k)) (range_with_len 0 g.nx) →
     record { grid = g; x = x; y = y; z = z } ≡ cuts_for g js
 unfolding cuts_for
 cuts_from_pieces g js x y z own y_is z_is =
-    let all_y : y ≡ flat_map (y_cuts g js) (range_with_len 0 g.nx) = y_is ∙ (λ i. flat_map (λ k. cuts_of (along Y) (in_slab_of X (own i) js k) g.ny) (range_with_len 0 g.nx)) in
+    let all_y : y ≡ flat_map (y_cuts g js) (range_with_len 0 g.nx) = y_is ∙ (λ i. flat_map (λ k. cuts_of (along Y) (in_slab_along X (own i) js k) g.ny) (range_with_len 0 g.nx)) in
     let all_z : z ≡ flat_map (λ ix. flat_map (z_cuts g js ix) (range_with_len 0 g.ny)) (range_with_len 0 g.nx) =
-    z_is ∙ (λ i. flat_map (λ k. column_cuts g (in_slab_of X (own i) js k)) (range_with_len 0 g.nx)) in
+    z_is ∙ (λ i. flat_map (λ k. column_cuts g (in_slab_along X (own i) js k)) (range_with_len 0 g.nx)) in
     λ i. record { grid = g; x = own i; y = all_y i; z = all_z i }
 
 -- so a slab of sites makes the cuts of its particles
-rows_alike : (g : Division) (js : List Particle) (x : List ℕ) (k : ℕ) → cuts_of (along Y) (in_slab_of X x (map site_of js) k) g.ny ≡ cuts_of (along Y) (in_slab_of X x js k) g.ny
-rows_alike g js x k = ap (λ (l : List Particle). cuts_of (along Y) l g.ny) (in_slab_of-sites X x js k) ∙ cuts_of-sites Y (in_slab_of X x js k) g.ny
+rows_alike : (g : Division) (js : List Particle) (x : List ℕ) (k : ℕ) → cuts_of (along Y) (in_slab_along X x (map site_of js) k) g.ny ≡ cuts_of (along Y) (in_slab_along X x js k) g.ny
+rows_alike g js x k = ap (λ (l : List Particle). cuts_of (along Y) l g.ny) (in_slab_along-sites X x js k) ∙ cuts_of-sites Y (in_slab_along X x js k) g.ny
 
-columns_alike : (g : Division) (js : List Particle) (x : List ℕ) (k : ℕ) → column_cuts g (in_slab_of X x (map site_of js) k) ≡ column_cuts g (in_slab_of X x js k)
-columns_alike g js x k = ap (column_cuts g) (in_slab_of-sites X x js k) ∙ column_cuts-sites g (in_slab_of X x js k)
+columns_alike : (g : Division) (js : List Particle) (x : List ℕ) (k : ℕ) → column_cuts g (in_slab_along X x (map site_of js) k) ≡ column_cuts g (in_slab_along X x js k)
+columns_alike g js x k = ap (column_cuts g) (in_slab_along-sites X x js k) ∙ column_cuts-sites g (in_slab_along X x js k)
 
 pub cuts_for-sites : (g : Division) (js : List Particle) → cuts_for g (map site_of js) ≡ cuts_for g js
 cuts_for-sites g js =
     let x : List ℕ = cuts_of (along X) (map site_of js) g.nx in
     let slabs : List ℕ = range_with_len 0 g.nx in
-    sym (cuts_from_pieces g (map site_of js) x (flat_map (λ k. cuts_of (along Y) (in_slab_of X x (map site_of js) k) g.ny) slabs) (flat_map (λ k. column_cuts g (in_slab_of X x (map site_of js) k)) slabs) refl refl refl)
+    sym (cuts_from_pieces g (map site_of js) x (flat_map (λ k. cuts_of (along Y) (in_slab_along X x (map site_of js) k) g.ny) slabs) (flat_map (λ k. column_cuts g (in_slab_along X x (map site_of js) k)) slabs) refl refl refl)
     ∙ cuts_from_pieces g js x _ _ (cuts_of-sites X js g.nx) (λ i. flat_map (λ k. rows_alike g js x k i) slabs) (λ i. flat_map (λ k. columns_alike g js x k i) slabs)
 
 pub sites_are_bodies : (js : List Particle) → AreBodies js → AreBodies (map site_of js)

@@ -1,35 +1,24 @@
 -- Particles in the order of (coordinate, id), and the cuts that they make.
-use Rattle.std.proofs.Common.{◌≡◌, ℕ, suc, ◌-◌, ◌*◌, ◌/◌, ◌^◌, ◌<◌, ◌≤◌, Bool, true, false, cond, ◌&&◌, ◌||◌, List, [], ◌∷◌, length, get_or, map, nat_eq, nat_lt, inl, inr, refl, sym, ◌∙◌, ap, arith}
-use Rattle.std.specs.List.{range_with_len, AllPairs}
-use Rattle.std.specs.Bool.{IsTrue}
-use Rattle.std.specs.List.Sorted.{IsPermutation, IsSortedBy, IsNonDecreasingBy}
+use Rattle.std.proofs.Common.{◌≡◌, ℕ, ◌-◌, ◌*◌, ◌/◌, ◌^◌, ◌<◌, ◌≤◌, Bool, true, false, cond, ◌&&◌, ◌||◌, List, [], ◌∷◌, length, get_or, map, nat_eq, nat_lt, inl, inr, refl, sym, ◌∙◌, ap, arith}
+use Rattle.std.specs.List.{range_with_len}
+use Rattle.std.specs.List.Sorted.{IsSortedBy, IsNonDecreasingBy}
 use Rattle.std.specs.Cmp.{nat_cmp_is}
 use Rattle.std.specs.Ordering.{nat_cmp, ordering_then, is_lt}
 use Rattle.std.specs.declared.cmp.Ordering.{Ordering}
 use Rattle.std.specs.declared.cmp.Ordering.TheVariants.{Less, Equal}
-use Rattle.std.proofs.lemmas.Bool.{cases_lt, cases_order, both_ways, cond-true, ltb-true, lt-ltb, eqb-true, eq-eqb, or_cases, or_left, or_right, and_parts, and_from}
+use Rattle.std.proofs.lemmas.Bool.{cases_lt, cases_order, both_ways, ltb-true, lt-ltb, eqb-true, eq-eqb, or_cases, or_left, or_right, and_parts, and_from}
 use Rattle.std.proofs.lemmas.Bool.Decides.{Decides-eqb}
 use Rattle.std.proofs.lemmas.Cmp.{nat_cmp_total, on_total, then_total}
 use Rattle.std.proofs.lemmas.List.{length-map, get_or-map}
-use Rattle.std.proofs.lemmas.List.Sorted.{ranks_by, sorted_far, IsPermutation-map}
+use Rattle.std.proofs.lemmas.List.Sorted.{ranks_by, sorted_far}
 use Rattle.std.proofs.lemmas.Map.Made.{AllPairs-from_IsDistinct}
 use Rattle.pf_geom.specs.Position.{Position}
 use Rattle.pf_geom.specs.declared.axis.Axis.{Axis}
 use Rattle.pf_model.specs.Particle.{Particle}
 use Rattle.pf_model.specs.Particles.{HaveDistinctIds}
 use Rattle.pf_model.specs.Order.{placed, in_order_once}
-use Rattle.pf_model.specs.Division.{Division}
-use Rattle.pf_model.specs.Domains.{Multisection, comes_first, coordinates_of, cuts_of, cuts_for}
-use Rattle.pf_model.specs.DomainLaws.{CutsIgnoreOrder}
+use Rattle.pf_model.specs.Domains.{comes_first, coordinates_of, cuts_of}
 use Rattle.multisection.specs.Sites.{along, IsInOrder}
-
--- a list whose elements stand in order is that list in order
-pub in_order-ordered : {X : Type 0} (before : X → X → Bool) (xs : List X) → AllPairs (λ i j. IsTrue (before i j)) xs → in_order_once before xs ≡ xs
-in_order-ordered before [] h = refl
-in_order-ordered before (x ∷ []) h = refl
-in_order-ordered before (x ∷ y ∷ ys) h =
-    ap (placed before x) (in_order-ordered before (y ∷ ys) (λ i j d less within. h (suc i) (suc j) d (omega arith) (omega arith)))
-    ∙ cond-true (before x y) _ _ (h 0 1 x (omega arith) (omega arith))
 
 map-cond : {X Y : Type 0} (f : X → Y) (b : Bool) (us vs : List X) → map f (cond b us vs) ≡ cond b (map f us) (map f vs)
 map-cond f true us vs = refl
@@ -67,24 +56,8 @@ cuts_of-map a b f ids places js m =
     let long = length-map js f in
     λ i. map (λ k. get_or (coords i) (long i * k / m) (2 ^ 30)) (range_with_len 1 (m - 1))
 
--- a particle whose x is the coordinate along an axis
-turned : Axis → Particle → Particle
-turned axis j = record { id = j.id; at = record { x = along axis j.at; y = 0; z = 0 }; vel = []; mass = 0; attr = [] }
-
 pub ids_kept : (f : Particle → Particle) → ((j : Particle) → (f j).id ≡ j.id) → (js : List Particle) → map (λ (j : Particle). j.id) (map f js) ≡ map (λ (j : Particle). j.id) js
 ids_kept f ids js = map-map f (λ (j : Particle). j.id) (λ (j : Particle). j.id) ids js
-
--- the order of particles changes no cut along an axis
-pub cuts_of-same : CutsIgnoreOrder → (axis : Axis) (js ks : List Particle) (m : ℕ) → HaveDistinctIds js → IsPermutation js ks → cuts_of (along axis) js m ≡ cuts_of (along axis) ks m
-unfolding cuts_for turned
-cuts_of-same law axis js ks m distinct same =
-    let g : Division = record { nx = m; ny = 1; nz = 1 } in
-    let f : Particle → Particle = turned axis in
-    let apart : HaveDistinctIds (map f js) = rw (ids_kept f (λ j. refl) js) distinct in
-    let whole = law g (map f js) (map f ks) apart (IsPermutation-map f js ks same) in
-    sym (cuts_of-map (along axis) (λ p. p.x) f (λ j. refl) (λ j. refl) js m)
-    ∙ ap (λ (s : Multisection). s.x) whole
-    ∙ cuts_of-map (along axis) (λ p. p.x) f (λ j. refl) (λ j. refl) ks m
 
 -- what a sort by (coordinate, id) leaves
 abbrev pub is_less : Axis → Particle → Particle → Bool

@@ -13,8 +13,9 @@ use crate::site::{Site, sites_of};
 use crate::slab::{CUBE_SIDE, slab_of};
 use pf_geom::Axis;
 use pf_model::{
-    Body, Grid, MOST_PARTICLES, MOST_RANKS, cuts_ascend, cuts_ignore_order,
-    distinct_ids_ignore_order, some_have_distinct_ids,
+    Body, Grid, MOST_PARTICLES, MOST_RANKS, cuts_along_ignore_order, cuts_ascend,
+    distinct_ids_ignore_order, orders_along_are_one, some_have_distinct_ids,
+    tests_keep_permutations,
 };
 use pf_num::OutOfMemory;
 use std::alloc::Global;
@@ -35,9 +36,10 @@ fn cut_sites(alloc: Global, sites: &mut [Site], grid: Grid) -> Result<Cuts, OutO
     ensures { IfOk result (λ cuts. cuts ≡ cuts_for grid sites.old) }
 {
     cuts_ascend();
-    cuts_ignore_order();
+    cuts_along_ignore_order();
     distinct_ids_ignore_order();
     some_have_distinct_ids();
+    tests_keep_permutations::<Site>();
     let x = cut_along(alloc, Axis::X, sites, grid.nx)?;
     let mut y = Vec::new(alloc);
     let mut z = Vec::new(alloc);
@@ -63,9 +65,10 @@ fn cut_slab(
     ensures y { IfOk result (λ _. y.new.items ≡ y.old.items ++ cuts_of (along Y) sites.old grid.ny) }
     ensures z { IfOk result (λ _. z.new.items ≡ z.old.items ++ column_cuts grid sites.old) }
 {
-    cuts_ignore_order();
+    cuts_along_ignore_order();
     distinct_ids_ignore_order();
     some_have_distinct_ids();
+    tests_keep_permutations::<Site>();
     let own = cut_along(alloc, Axis::Y, sites, grid.ny)?;
     let mut start = 0;
     for iy in 0..grid.ny {
@@ -93,7 +96,7 @@ fn cut_along(
     ensures ascend { IfOk result (λ cuts. IsNonDecreasing cuts.items) }
     ensures cuts { IfOk result (λ cuts. cuts.items ≡ cuts_of (along axis) sites.old slabs) }
 {
-    cuts_ignore_order();
+    orders_along_are_one();
     sort_along(axis, sites);
     let mut cuts = Vec::with_capacity(alloc, slabs as usize - 1)?;
     for slab in 1..slabs {

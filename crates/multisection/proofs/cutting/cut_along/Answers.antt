@@ -21,4 +21,4 @@ returns-clause-ascend c = subst IsNonDecreasing (sym (all c)) (cuts_rise c.args.
 
 pub returns-clause-cuts : goal.returns-clause-cuts
 returns-clause-cuts c =
-    all c ∙ cuts_read c.cuts_ignore_order.ensures c.args.axis c.args.sites.now c.sort_along.new.sites c.args.slabs c.requires.bodies.distinct c.sort_along.ensures.same c.sort_along.ensures.in_order
+    all c ∙ cuts_read c.orders_along_are_one.ensures c.args.axis c.args.sites.now c.sort_along.new.sites c.args.slabs c.sort_along.ensures.same c.sort_along.ensures.in_order

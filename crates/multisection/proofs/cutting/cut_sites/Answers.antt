@@ -4,8 +4,7 @@ use Rattle.pf_geom.specs.declared.axis.Axis.TheVariants.{X, Y}
 use Rattle.pf_model.specs.Particle.{Particle}
 use Rattle.pf_model.specs.Division.{Division, IsDivision}
 use Rattle.pf_model.specs.Domains.{IsMultisection, cuts_of, cuts_for}
-use Rattle.multisection.specs.Sites.{along, in_slab_of, column_cuts}
-use Rattle.multisection.proofs.OrderLemmas.{cuts_of-same}
+use Rattle.multisection.specs.Sites.{along, in_slab_along, column_cuts}
 use Rattle.multisection.proofs.RunLemmas.{none_cut, one_more_cut, left_run}
 use Rattle.multisection.proofs.CutLemmas.{run_of_slab, column_cuts-same, joined_more, cuts_from_pieces}
 use Rattle.multisection.proofs.cutting.cut_sites.Goals as goal
@@ -29,15 +28,15 @@ loop-ix-preserved c =
     let sorted = c.cut_along.new.sites in
     let run : List Particle = take (end - start) (drop start sites) in
     let run_is = left_run X x c.deref.result.now sorted (drop start sites) ix (end - start) c.deref.ensures.value c.loop-ix.invariant.cut.left c.run_end-end.ensures.run in
-    let r = run_of_slab c.distinct_ids_ignore_order.ensures c.some_have_distinct_ids.ensures X x js sorted run ix c.requires.bodies.distinct c.cut_along.ensures.same run_is in
-    let slab : List Particle = in_slab_of X x js ix in
-    let rows = cuts_of-same c.cuts_ignore_order.ensures Y slab run g.ny r.distinct r.same in
-    let columns = column_cuts-same c.cuts_ignore_order.ensures c.some_have_distinct_ids.ensures g slab run r.distinct r.same in
+    let r = run_of_slab c.distinct_ids_ignore_order.ensures c.some_have_distinct_ids.ensures c.tests_keep_permutations.ensures X x js sorted run ix c.requires.bodies.distinct c.cut_along.ensures.same run_is in
+    let slab : List Particle = in_slab_along X x js ix in
+    let rows = c.cuts_along_ignore_order.ensures (along Y) slab run g.ny r.distinct r.same in
+    let columns = column_cuts-same c.cuts_along_ignore_order.ensures c.some_have_distinct_ids.ensures c.tests_keep_permutations.ensures g slab run r.distinct r.same in
     record {
       cut = one_more_cut X x c.deref.result.now sorted sites c.cut_slab.new.sites ix start end c.deref.ensures.value c.loop-ix.invariant.cut c.run_end-end.ensures.after c.run_end-end.ensures.bound
           c.run_end-end.ensures.rest c.cut_slab.ensures.same;
-      y = joined_more (λ (k : ℕ). cuts_of (along Y) (in_slab_of X x js k) g.ny) ix c.loop-ix.y.items c.cut_slab.new.y.items (cuts_of (along Y) run g.ny) c.loop-ix.invariant.y (sym rows) c.in_ok-cut_slab.ensures.y;
-      z = joined_more (λ (k : ℕ). column_cuts g (in_slab_of X x js k)) ix c.loop-ix.z.items c.cut_slab.new.z.items (column_cuts g run) c.loop-ix.invariant.z (sym columns) c.in_ok-cut_slab.ensures.z;
+      y = joined_more (λ (k : ℕ). cuts_of (along Y) (in_slab_along X x js k) g.ny) ix c.loop-ix.y.items c.cut_slab.new.y.items (cuts_of (along Y) run g.ny) c.loop-ix.invariant.y (sym rows) c.in_ok-cut_slab.ensures.y;
+      z = joined_more (λ (k : ℕ). column_cuts g (in_slab_along X x js k)) ix c.loop-ix.z.items c.cut_slab.new.z.items (column_cuts g run) c.loop-ix.invariant.z (sym columns) c.in_ok-cut_slab.ensures.z;
     }
 
 the_cuts : (c : goal.After-loop-ix) → record { grid = c.args.grid; x = c.in_ok-x.x.items; y = c.loop-ix.y.items; z = c.loop-ix.z.items } ≡ cuts_for c.args.grid c.args.sites.now
@@ -48,8 +47,8 @@ the_cuts c =
     let nx = ap (λ (d : Division). d.nx) c.grid.view_is in
     let last : c.loop-ix.ix ≡ g.nx = omega (arith, c.loop-ix-test.false, c.loop-ix.auto.ix-end, nx) in
     cuts_from_pieces g js x c.loop-ix.y.items c.loop-ix.z.items (c.in_ok-x.ensures.cuts ∙ ap (cuts_of (along X) js) nx)
-    (c.loop-ix.invariant.y ∙ ap (λ (n : ℕ). flat_map (λ k. cuts_of (along Y) (in_slab_of X x js k) g.ny) (range_with_len 0 n)) last)
-    (c.loop-ix.invariant.z ∙ ap (λ (n : ℕ). flat_map (λ k. column_cuts g (in_slab_of X x js k)) (range_with_len 0 n)) last)
+    (c.loop-ix.invariant.y ∙ ap (λ (n : ℕ). flat_map (λ k. cuts_of (along Y) (in_slab_along X x js k) g.ny) (range_with_len 0 n)) last)
+    (c.loop-ix.invariant.z ∙ ap (λ (n : ℕ). flat_map (λ k. column_cuts g (in_slab_along X x js k)) (range_with_len 0 n)) last)
 
 pub invariant_of-result : goal.invariant_of-result
 invariant_of-result c =
