@@ -1,8 +1,8 @@
-ghost use Rattle.std.specs.Prelude.{◌≡◌, ◌+◌, ◌≤◌, ◌<◌, List, [], ◌∷◌, length, take, drop, IfOk};
+ghost use Rattle.std.specs.Prelude.{◌≡◌, ◌+◌, ◌≤◌, ◌<◌, List, [], ◌∷◌, length, take, drop, All, IfOk};
 ghost use Rattle.pf_model.specs.Particle.{Particle};
 ghost use Rattle.pf_model.specs.Totals.{IsTotals};
 ghost use Rattle.pf_model.specs.Sums.{moment_of};
-ghost use Rattle.moments.specs.Prefix.{prefix_moments};
+ghost use Rattle.moments.specs.Prefix.{prefix_moments, HasLimitedMoment};
 
 use pf_model::{Body, MOST_PARTICLES, Moment, moments_cancel};
 use pf_num::OutOfMemory;
@@ -33,13 +33,8 @@ pub fn prefix_of(alloc: Global, bodies: &[Body]) -> Result<Prefix, OutOfMemory>
     requires { length bodies.now ≤ MOST_PARTICLES }
     ensures { IfOk result (λ p. p ≡ prefix_moments bodies.now) }
 {
-    let mut moments = Vec::with_capacity(alloc, bodies.len() + 1)?;
-    let mut so_far = Moment::none();
-    moments.push(so_far)?;
-    for body in bodies {
-        so_far = so_far.merge(limited_moment(body));
-        moments.push(so_far)?;
-    }
+    let mut moments = vec![in alloc; Moment::none(); bodies.len() + 1]?;
+    fill(&mut moments, bodies);
     Ok(Prefix { moments })
 }
 
@@ -53,6 +48,29 @@ impl Prefix {
         let through = self.moments[(first + len) as usize];
         moments_cancel();
         through.without(before)
+    }
+
+    /// The moments of other bodies in place of those, as many as there were.
+    pub fn refill(&mut self, bodies: &[Body])
+        requires { length self.old ≡ length bodies.now + 1 }
+        ensures { self.new ≡ prefix_moments bodies.now }
+    {
+        fill(&mut self.moments, bodies);
+    }
+}
+
+// Writes the moments of the first bodies, for each count of them from none to all.
+fn fill(moments: &mut [Moment], bodies: &[Body])
+    requires few { length bodies.now ≤ MOST_PARTICLES }
+    requires room { length moments.old ≡ length bodies.now + 1 }
+    ensures value { moments.new ≡ prefix_moments bodies.now }
+    ensures limits { All HasLimitedMoment bodies.now }
+{
+    let mut so_far = Moment::none();
+    moments[0] = so_far;
+    for place in 0..bodies.len() {
+        so_far = so_far.merge(limited_moment(&bodies[place]));
+        moments[place + 1] = so_far;
     }
 }
 
