@@ -27,17 +27,17 @@ child_key_fits level key k h shallow low =
     omega arith
 
 -- a test that gives the same answers has the same count
-count_agree : {X : Type 0} (p q : X → Bool) (xs : List X) → ((x : X) → p x ≡ q x) → count_by p xs ≡ count_by q xs
+pub count_agree : {X : Type 0} (p q : X → Bool) (xs : List X) → ((x : X) → p x ≡ q x) → count_by p xs ≡ count_by q xs
 count_agree p q xs same = sym (length-filter p xs) ∙ ap length (filter_agree p q same xs) ∙ length-filter q xs
 
 -- the key of a cell of a particle is an eighth of that of the next level
-parent_key : (level : ℕ) (j : Particle) → level < 30 → key_at level j ≡ key_at (level + 1) j / 8
+pub parent_key : (level : ℕ) (j : Particle) → level < 30 → key_at level j ≡ key_at (level + 1) j / 8
 parent_key level j shallow =
     let deeper : 30 - level ≡ suc (30 - (level + 1)) = omega arith in
     let width : 8 ^ (30 - level) ≡ 8 ^ (30 - (level + 1)) * 8 = ap (λ n. 8 ^ n) deeper ∙ pow-suc 8 (30 - (level + 1)) in
     ap (λ n. morton_key j.at / n) width ∙ sym (div-div-eq-div-mul (morton_key j.at) (8 ^ (30 - (level + 1))) 8)
 
-same_tests : (a b m n : ℕ) → (a < b → m < n) → (m < n → a < b) → ltb a b ≡ ltb m n
+pub same_tests : (a b m n : ℕ) → (a < b → m < n) → (m < n → a < b) → ltb a b ≡ ltb m n
 same_tests a b m n forth back =
     elim (cases_lt a b) [
       | inl less ↦ lt-ltb a b less ∙ sym (lt-ltb m n (forth less))
@@ -47,7 +47,7 @@ same_tests a b m n forth back =
       ]
     ]
 
-turned_test : (a b m n : ℕ) → (b ≤ a → m < n) → (m < n → b ≤ a) → not (ltb a b) ≡ ltb m n
+pub turned_test : (a b m n : ℕ) → (b ≤ a → m < n) → (m < n → b ≤ a) → not (ltb a b) ≡ ltb m n
 turned_test a b m n forth back =
     elim (cases_lt a b) [
       | inl less ↦ elim (cases_lt m n) [

@@ -1,5 +1,5 @@
 -- Spans: runs of places in the list of a tree's particles.
-use Rattle.std.specs.Prelude.{◌≡◌, ℕ, ◌+◌, ◌*◌, List, [], ◌∷◌, length, map, take, drop, count_by, nat_lt}
+use Rattle.std.specs.Prelude.{◌≡◌, ℕ, ◌+◌, ◌*◌, ◌≤◌, List, [], ◌∷◌, length, map, take, drop, count_by, nat_lt}
 use Rattle.std.specs.List.{range_with_len}
 use Rattle.pf_geom.specs.Octant.{Octant, cell_at}
 use Rattle.pf_model.specs.Particle.{Particle}
@@ -30,3 +30,12 @@ child_spans c js = map (λ k. span_of (child_of c k) js) (range_with_len 0 8)
 abbrev pub FollowOneAnother : ℕ → ℕ → List Span → Type 0
 FollowOneAnother start end [] = start ≡ end
 FollowOneAnother start end (s ∷ spans) = (s.first ≡ start) × FollowOneAnother (start + s.len) end spans
+
+-- how many of these keys are below a key
+abbrev pub count_below : ℕ → List ℕ → ℕ
+count_below key keys = count_by (λ k. nat_lt k key) keys
+
+-- the span lies within another
+pub record IsWithin (s above : Span) : Type 0 where
+  pub start : above.first ≤ s.first
+  pub end : s.first + s.len ≤ above.first + above.len

@@ -1,5 +1,5 @@
 -- Trees: particles in the order of the Morton curve, which may have moved since.
-use Rattle.std.specs.Prelude.{◌≡◌, List, map, IsTrue, AllPairs}
+use Rattle.std.specs.Prelude.{◌≡◌, ℕ, List, map, IsTrue, AllPairs}
 use Rattle.pf_geom.specs.Key.{morton_key}
 use Rattle.pf_model.specs.Particle.{Particle}
 use Rattle.pf_model.specs.Particles.{AreBodies}
@@ -31,7 +31,9 @@ IsUnmoved t = t.bodies ≡ t.built
 abbrev pub unmoved_tree : List Particle → Octree
 unmoved_tree js = record { built = js; bodies = js }
 
--- a tree, and the moments of its first particles, for each count of them
-pub record IsTreeWithSums (t : Octree) (sums : List Totals) : Type 0 where
+-- what a tree has beside its particles: the keys that they had when it was built, and the moments of the first of
+-- them as they are now, for each count
+pub record IsTreeOf (t : Octree) (ks : List ℕ) (sums : List Totals) : Type 0 where
   pub tree : IsOctree t
+  pub keys : ks ≡ map (λ j. morton_key j.at) t.built
   pub moments : sums ≡ prefix_moments t.bodies

@@ -1,12 +1,14 @@
-ghost use Rattle.std.specs.Prelude.{◌≡◌, ◌≤◌, IfOk, All, Contains, length, map};
-ghost use Rattle.pf_model.specs.Group.{group_cell};
+ghost use Rattle.std.specs.Prelude.{◌≡◌, ◌+◌, ◌≤◌, IfOk, All, Contains, length, map};
+ghost use Rattle.pf_model.specs.Group.{particles_in, group_cell};
+ghost use Rattle.pf_geom.specs.Octant.{ancestor_at};
 ghost use Rattle.morton_tree.specs.Tree.{IsUnmoved};
-ghost use Rattle.morton_tree.specs.Spans.{FollowOneAnother};
+ghost use Rattle.morton_tree.specs.Spans.{at_span, span_of, FollowOneAnother};
 ghost use Rattle.morton_tree.specs.Groups.{group_in, groups_of, IsGroup};
 
 use crate::group::Group;
+use crate::span::Span;
 use crate::tree::Tree;
-use pf_geom::{Cell, DEEPEST, Point, cell_of};
+use pf_geom::{Cell, DEEPEST, Point, cell_of, cells_of_a_position_nest};
 use pf_model::{Body, MOST_GROUP, box_of, group_levels_are_least, positions_share_their_group};
 use pf_num::OutOfMemory;
 use std::alloc::Global;
@@ -44,8 +46,7 @@ impl Tree {
         requires own { Contains self.now.built body.now }
         ensures { result ≡ group_in self.now.built (group_cell limit self.now.built body.now.at) }
     {
-        let cell = self.group_cell(limit, body.at);
-        let span = self.node(cell);
+        let (cell, span) = self.group_cell(limit, body.at);
         let first = span.first as usize;
         let members = &self.bodies()[first..first + span.len as usize];
         Group {
@@ -55,18 +56,36 @@ impl Tree {
         }
     }
 
-    // The cell of the group of a point. Each level is tried in turn, from the cube down, and its bodies
-    // are counted by two searches of the whole list.
-    fn group_cell(&self, limit: u32, p: Point) -> Cell
-        ensures { result ≡ group_cell limit self.now.built p }
+    // The cell of the group of a point, and the span of its bodies. Each level is tried in turn, from the cube
+    // down, and a cell is searched for among the bodies of the one above it.
+    fn group_cell(&self, limit: u32, p: Point) -> (Cell, Span)
+        ensures cell { result.0 ≡ group_cell limit self.now.built p }
+        ensures span { result.1 ≡ span_of result.0 self.now.built }
+        ensures inside { result.1.first + result.1.len ≤ length self.now.bodies }
+        ensures members { at_span result.1 self.now.built ≡ particles_in result.0 self.now.built }
     {
         group_levels_are_least();
+        cells_of_a_position_nest();
+        let deepest = cell_of(p, DEEPEST);
+        let mut span = self.whole();
         for level in 0..DEEPEST {
-            let cell = cell_of(p, level);
-            if self.node(cell).len <= limit {
-                return cell;
+            let cell = ancestor(deepest, level);
+            span = self.node_in(cell, span);
+            if span.len <= limit {
+                return (cell, span);
             }
         }
-        cell_of(p, DEEPEST)
+        (deepest, self.node_in(deepest, span))
+    }
+}
+
+// The cell of a level that a cell lies in.
+fn ancestor(c: Cell, level: u32) -> Cell
+    requires { level ≤ c.level }
+    ensures { result ≡ ancestor_at c level }
+{
+    Cell {
+        level,
+        key: c.key >> (3 * (c.level - level)),
     }
 }

@@ -5,6 +5,8 @@
 
 mod group;
 mod groups;
+mod placed;
+mod sorting;
 mod span;
 mod tree;
 

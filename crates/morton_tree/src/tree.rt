@@ -1,46 +1,41 @@
-ghost use Rattle.std.specs.Prelude.{◌≡◌, ◌+◌, ◌<◌, ◌≤◌, IfOk, IsPermutation, length, nat_lt};
-ghost use Rattle.pf_geom.specs.Octant.{cell_at};
+ghost use Rattle.std.specs.Prelude.{◌≡◌, ◌+◌, ◌*◌, ◌-◌, ◌^◌, ◌<◌, ◌≤◌, IfOk, IsPermutation, length, map};
+ghost use Rattle.std.specs.List.Sorted.{IsNonDecreasing};
+ghost use Rattle.pf_geom.specs.Key.{morton_key};
 ghost use Rattle.pf_model.specs.Particles.{AreBodies};
 ghost use Rattle.pf_model.specs.Sums.{moment_of};
 ghost use Rattle.pf_model.specs.Group.{particles_in};
-ghost use Rattle.morton_tree.specs.Tree.{IsInKeyOrder, IsOctree, IsUnmoved, unmoved_tree};
-ghost use Rattle.morton_tree.specs.Spans.{at_span, span_of, child_of, child_spans, FollowOneAnother};
+ghost use Rattle.morton_tree.specs.Tree.{IsInKeyOrder, IsOctree, IsUnmoved};
+ghost use Rattle.morton_tree.specs.Spans.{at_span, span_of, child_of, child_spans, FollowOneAnother, IsWithin, count_below};
 
+use crate::sorting::in_order;
 use crate::span::Span;
 use moments::{Prefix, prefix_of};
-use pf_geom::{Cell, DEEPEST, cell_of, key_of};
+use pf_geom::{Cell, DEEPEST};
 use pf_model::{Body, Moment};
 use pf_num::OutOfMemory;
-use rayon::prelude::*;
 use std::alloc::Global;
 use std::marker::Model;
 use std::thread::Threads;
 
 /// The octree of one rank without pointers: its bodies in the order of the Morton curve, so that each
-/// cell is a span of the list (Gargantini 1982; Warren and Salmon 1993).
+/// cell is a span of the list (Gargantini 1982; Warren and Salmon 1993). It keeps their keys and the bodies
+/// of the build, by which spans are found also after the bodies have moved.
 #[derive(Drop)]
 pub struct Tree {
+    keys: Vec<u128>,
+    built: Vec<Body>,
     bodies: Vec<Body>,
     sums: Prefix,
 }
 
 impl Model for Tree {
-    ghost use Rattle.morton_tree.specs.Tree.{Octree, unmoved_tree, IsTreeWithSums};
+    ghost use Rattle.morton_tree.specs.Tree.{Octree, IsTreeOf};
 
     ghost Value = { Octree };
 
-    ghost view = { λ t. unmoved_tree t.bodies.items };
+    ghost view = { λ t. record { built = t.built.items; bodies = t.bodies.items } };
 
-    ghost invariant = { λ t. IsTreeWithSums (unmoved_tree t.bodies.items) t.sums };
-}
-
-// Puts the bodies into the order of (key, id).
-fn sort_by_key(rt: &(impl Threads + Sync), bodies: &mut [Body])
-    requires { AreBodies bodies.old }
-    ensures same_bodies { IsPermutation bodies.old bodies.new }
-    ensures tree { IsOctree (unmoved_tree bodies.new) }
-{
-    par_sort_unstable_by_key(rt, bodies, |body| (key_of(body.at), body.id));
+    ghost invariant = { λ t. IsTreeOf (record { built = t.built.items; bodies = t.bodies.items }) t.keys.items t.sums };
 }
 
 impl Tree {
@@ -55,9 +50,25 @@ impl Tree {
         ensures in_order { IfOk result (λ tree. IsInKeyOrder tree.built) }
         ensures unmoved { IfOk result (λ tree. IsUnmoved tree) }
     {
-        sort_by_key(rt, &mut bodies);
-        let sums = prefix_of(alloc, &bodies)?;
-        Ok(Tree { bodies, sums })
+        let (keys, built) = in_order(rt, alloc, &bodies)?;
+        let sums = prefix_of(alloc, &built)?;
+        bodies.copy_from_slice(&built);
+        Ok(Tree {
+            keys,
+            built,
+            bodies,
+            sums,
+        })
+    }
+
+    /// The bodies become `now`, which has the same ids in the same order. Cells keep the spans of the build,
+    /// and moments are those of the present bodies.
+    pub fn moved(&mut self, now: &[Body])
+        requires { map (λ j. j.id) now.now ≡ map (λ j. j.id) self.old.bodies }
+        ensures value { self.new ≡ record { built = self.old.built; bodies = now.now } }
+    {
+        self.bodies.copy_from_slice(now);
+        self.sums.refill(now);
     }
 
     /// The bodies, in the order of (key, id) that they had at the build.
@@ -68,12 +79,12 @@ impl Tree {
         &self.bodies
     }
 
-    // The bodies as they were at the build.
-    fn built(&self) -> &[Body]
-        ensures value { result.now ≡ self.now.built }
+    /// The Morton keys that the bodies had at the build, in ascending order.
+    pub fn keys(&self) -> &[u128]
+        ensures value { result.now ≡ map (λ j. morton_key j.at) self.now.built }
         ensures tree { IsOctree self.now }
     {
-        &self.bodies
+        &self.keys
     }
 
     /// Where the bodies that a cell had at the build stand in the list of bodies. The span of a cell
@@ -83,10 +94,29 @@ impl Tree {
         ensures inside { result.first + result.len ≤ length self.now.bodies }
         ensures members { at_span result self.now.built ≡ particles_in c self.now.built }
     {
-        let built = self.built();
-        let first = built.partition_point(|body| lies_below(body, c));
-        let end = built.partition_point(|body| !lies_above(body, c));
+        self.node_in(c, self.whole())
+    }
+
+    // The span of a cell, which lies within this one.
+    pub(crate) fn node_in(&self, c: Cell, above: Span) -> Span
+        requires within { IsWithin (span_of c self.now.built) above }
+        requires inside { above.first + above.len ≤ length self.now.built }
+        ensures { result ≡ span_of c self.now.built }
+    {
+        let keys = self.keys();
+        let (least, past) = key_range(c);
+        let end = (above.first + above.len) as usize;
+        let first = first_from(keys, least, above.first as usize, end);
+        let end = first_from(keys, past, first, end);
         Span::between(first, end)
+    }
+
+    // The span of all bodies.
+    pub(crate) fn whole(&self) -> Span
+        ensures value { result ≡ record { first = 0; len = length self.now.built } }
+        ensures tree { IsOctree self.now }
+    {
+        Span::between(0, self.keys().len())
     }
 
     /// The spans of the eight children of a cell, in the order of their keys. The level isn't the deepest.
@@ -96,28 +126,40 @@ impl Tree {
         ensures in_turn { let whole = span_of c self.now.built in
             FollowOneAnother whole.first (whole.first + whole.len) result }
     {
+        self.children_in(c, self.node(c))
+    }
+
+    /// The same, where the span of the cell is known: only its bodies are searched.
+    pub fn children_in(&self, c: Cell, whole: Span) -> [Span; 8]
+        requires level { c.level < DEEPEST }
+        requires own { whole ≡ span_of c self.now.built }
+        ensures value { result ≡ child_spans c self.now.built }
+        ensures in_turn { FollowOneAnother whole.first (whole.first + whole.len) result }
+    {
         [
-            self.child(c, 0),
-            self.child(c, 1),
-            self.child(c, 2),
-            self.child(c, 3),
-            self.child(c, 4),
-            self.child(c, 5),
-            self.child(c, 6),
-            self.child(c, 7),
+            self.child_in(c, 0, whole),
+            self.child_in(c, 1, whole),
+            self.child_in(c, 2, whole),
+            self.child_in(c, 3, whole),
+            self.child_in(c, 4, whole),
+            self.child_in(c, 5, whole),
+            self.child_in(c, 6, whole),
+            self.child_in(c, 7, whole),
         ]
     }
 
-    // The span of one child of a cell.
-    fn child(&self, c: Cell, k: u8) -> Span
+    // The span of one child of a cell, within that of the cell.
+    fn child_in(&self, c: Cell, k: u8, whole: Span) -> Span
         requires level { c.level < DEEPEST }
         requires child { k < 8 }
+        requires own { whole ≡ span_of c self.now.built }
         ensures { result ≡ span_of (child_of c k) self.now.built }
     {
-        self.node(Cell {
+        let child = Cell {
             level: c.level + 1,
             key: 8 * c.key + u128::from(k),
-        })
+        };
+        self.node_in(child, whole)
     }
 
     /// The moment of the bodies of a span, as they are now. It lies inside the list of bodies.
@@ -129,16 +171,22 @@ impl Tree {
     }
 }
 
-// Whether a body lies in a cell of the same level with a lower key.
-fn lies_below(body: &Body, c: Cell) -> bool
-    ensures { result ≡ nat_lt (cell_at body.now.at c.level).key c.key }
+// The least key of a cell's points, and the one after the greatest.
+fn key_range(c: Cell) -> (u128, u128)
+    ensures least { result.0 ≡ c.key * 8 ^ (DEEPEST - c.level) }
+    ensures past { result.1 ≡ (c.key + 1) * 8 ^ (DEEPEST - c.level) }
 {
-    cell_of(body.at, c.level).key < c.key
+    let shift = 3 * (DEEPEST - c.level);
+    (c.key << shift, (c.key + 1) << shift)
 }
 
-// Whether a body lies in a cell of the same level with a higher key.
-fn lies_above(body: &Body, c: Cell) -> bool
-    ensures { result ≡ nat_lt c.key (cell_at body.now.at c.level).key }
+// The place of the first of ascending keys that isn't below this one, which is at least `from` and at most `to`.
+fn first_from(keys: &[u128], key: u128, from: usize, to: usize) -> usize
+    requires ascending { IsNonDecreasing keys.now }
+    requires least { from ≤ count_below key keys.now }
+    requires most { count_below key keys.now ≤ to }
+    requires inside { to ≤ length keys.now }
+    ensures { result ≡ count_below key keys.now }
 {
-    cell_of(body.at, c.level).key > c.key
+    from + keys[from..to].partition_point(|k| *k < key)
 }

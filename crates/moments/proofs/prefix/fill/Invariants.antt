@@ -1,4 +1,4 @@
-use Rattle.std.proofs.Common.{◌≡◌, ◌+◌, length, take}
+use Rattle.std.proofs.Common.{◌≡◌, ◌+◌, take}
 use Rattle.std.specs.List.{All}
 use Rattle.pf_model.specs.Sums.{moment_of}
 use Rattle.moments.specs.Prefix.{HasLimitedMoment}
