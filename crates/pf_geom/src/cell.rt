@@ -2,7 +2,7 @@ ghost use Rattle.std.specs.Prelude.{◌≡◌, ◌≤◌, ◌↔◌, IsTrue};
 ghost use Rattle.pf_geom.specs.Octant.{side_at, cell_at, IsIn, corner_of, IsCornerOf, closed_box};
 
 use crate::box3::Box3;
-use crate::key::{every_third_bit, key_of};
+use crate::key::{coordinates, key_of};
 use crate::point::Point;
 use std::marker::Model;
 
@@ -47,10 +47,11 @@ pub fn corner(c: Cell) -> Point
     ensures in_cell { IsCornerOf c result }
 {
     let side = side_of(c.level);
+    let (x, y, z) = coordinates(c.key, c.level);
     Point {
-        x: side * every_third_bit(c.key >> 2, c.level),
-        y: side * every_third_bit(c.key >> 1, c.level),
-        z: side * every_third_bit(c.key, c.level),
+        x: side * x,
+        y: side * y,
+        z: side * z,
     }
 }
 

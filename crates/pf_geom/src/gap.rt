@@ -28,6 +28,14 @@ pub fn gap2_across(edge: Edge, b: Box3, c: Cell) -> u128
     ensures value { result ≡ gap2_to edge b c }
     ensures fits { result < 3 * 2 ^ 60 }
 {
+    u128::from(squared_gap(edge, b, c))
+}
+
+/// The same squared gap in 64 bits, which always hold it.
+pub fn squared_gap(edge: Edge, b: Box3, c: Cell) -> u64
+    ensures value { result ≡ gap2_to edge b c }
+    ensures fits { result < 3 * 2 ^ 60 }
+{
     let cell = closed_box(c);
     let from = b.lo;
     let to = b.hi;
@@ -64,10 +72,10 @@ fn open_gap(from: u32, to: u32, lo: u32, hi: u32) -> u32
     lo.saturating_sub(to).max(from.saturating_sub(hi))
 }
 
-fn square(gap: u32) -> u128
+fn square(gap: u32) -> u64
     requires { gap < 2 ^ 30 }
     ensures value { result ≡ square gap }
     ensures fits { result < 2 ^ 60 }
 {
-    u128::from(gap) * u128::from(gap)
+    u64::from(gap) * u64::from(gap)
 }

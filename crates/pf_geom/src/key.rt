@@ -1,4 +1,4 @@
-ghost use Rattle.std.specs.Prelude.{◌≡◌, ◌^◌, ◌<◌, ◌≤◌};
+ghost use Rattle.std.specs.Prelude.{◌≡◌, ◌/◌, ◌^◌, ◌<◌, ◌≤◌};
 ghost use Rattle.pf_geom.specs.Key.{spread_bits, morton_key, every_third_bit, HasBitsOf};
 
 use crate::point::{COORDINATE_BITS, Point};
@@ -24,14 +24,20 @@ fn spread(coordinate: u32) -> u128
     spread
 }
 
-// The number with bit 3t of the key at place t, for each t below the count.
-pub(crate) fn every_third_bit(key: u128, count: u32) -> u32
+// The coordinates along x, y and z whose lowest bits, so many of each, stand in turn in a key. They are read
+// together, from the highest bits down.
+pub(crate) fn coordinates(key: u128, count: u32) -> (u32, u32, u32)
     requires { count ≤ 30 }
-    ensures { result ≡ every_third_bit count key }
+    ensures x { result.0 ≡ every_third_bit count (key / 4) }
+    ensures y { result.1 ≡ every_third_bit count (key / 2) }
+    ensures z { result.2 ≡ every_third_bit count key }
 {
-    let mut bits = 0;
-    for bit in (0..count).rev() {
-        bits = 2 * bits + (key >> (3 * bit) & 1) as u32;
+    let (mut x, mut y, mut z) = (0, 0, 0);
+    for place in (0..count).rev() {
+        let digit = ((key >> (3 * place)) % 8) as u32;
+        x = 2 * x + digit / 4;
+        y = 2 * y + digit / 2 % 2;
+        z = 2 * z + digit % 2;
     }
-    bits
+    (x, y, z)
 }

@@ -15,7 +15,7 @@ pub use axis::Axis;
 pub use box3::{Box3, widen};
 pub use cell::{Cell, DEEPEST, cell_of, contains, corner, side};
 pub use edge::Edge;
-pub use gap::{gap2, gap2_across, gap2_round};
+pub use gap::{gap2, gap2_across, gap2_round, squared_gap};
 pub use key::key_of;
 pub use laws::{
     boxes_round_are_least, cells_are_key_ranges, cells_have_equal_floors, cells_nest,

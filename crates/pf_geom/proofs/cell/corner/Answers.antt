@@ -4,25 +4,25 @@ use Rattle.pf_geom.proofs.CellLemmas.{octant}
 use Rattle.pf_geom.proofs.CornerLemmas.{IsRead, read_fits, IsInCube-read, corner_of-read, IsCornerOf-corner_of}
 use Rattle.pf_geom.proofs.cell.corner.Goals as goal
 
-read : (c : goal.After-every_third_bit-3) → IsRead (octant c.c.inside.level c.c.inside.key) c.side_of-side.result c.every_third_bit.result c.every_third_bit-2.result c.every_third_bit-3.result
+read : (c : goal.After-coordinates-x) → IsRead (octant c.c.inside.level c.c.inside.key) c.side_of-side.result c.coordinates-x.result.0 c.coordinates-x.result.1 c.coordinates-x.result.2
 read c = record {
   side_is = c.side_of-side.ensures;
-  x_is = c.every_third_bit.ensures;
-  y_is = c.every_third_bit-2.ensures;
-  z_is = c.every_third_bit-3.ensures;
+  x_is = c.coordinates-x.ensures.x;
+  y_is = c.coordinates-x.ensures.y;
+  z_is = c.coordinates-x.ensures.z;
 }
 
 pub overflow_mul-result : goal.overflow_mul-result
 overflow_mul-result c =
-    omega (arith, read_fits c.c.inside.level c.side_of-side.result c.every_third_bit.result (c.c.inside.key / 4) c.c.invariant.level_fits c.side_of-side.ensures c.every_third_bit.ensures)
+    omega (arith, read_fits c.c.inside.level c.side_of-side.result c.coordinates-x.result.0 (c.c.inside.key / 4) c.c.invariant.level_fits c.side_of-side.ensures c.coordinates-x.ensures.x)
 
 pub overflow_mul-result-2 : goal.overflow_mul-result-2
 overflow_mul-result-2 c =
-    omega (arith, read_fits c.c.inside.level c.side_of-side.result c.every_third_bit-2.result (c.c.inside.key / 2) c.c.invariant.level_fits c.side_of-side.ensures c.every_third_bit-2.ensures)
+    omega (arith, read_fits c.c.inside.level c.side_of-side.result c.coordinates-x.result.1 (c.c.inside.key / 2) c.c.invariant.level_fits c.side_of-side.ensures c.coordinates-x.ensures.y)
 
 pub overflow_mul-result-3 : goal.overflow_mul-result-3
 overflow_mul-result-3 c =
-    omega (arith, read_fits c.c.inside.level c.side_of-side.result c.every_third_bit-3.result c.c.inside.key c.c.invariant.level_fits c.side_of-side.ensures c.every_third_bit-3.ensures)
+    omega (arith, read_fits c.c.inside.level c.side_of-side.result c.coordinates-x.result.2 c.c.inside.key c.c.invariant.level_fits c.side_of-side.ensures c.coordinates-x.ensures.z)
 
 pub invariant_of-result : goal.invariant_of-result
 invariant_of-result c = IsInCube-read _ _ _ _ _ c.c.invariant (read c)

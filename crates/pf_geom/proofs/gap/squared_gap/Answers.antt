@@ -1,5 +1,5 @@
 use Rattle.pf_geom.specs.Gap.{gap2_to}
-use Rattle.pf_geom.proofs.gap.gap2_across.Goals as goal
+use Rattle.pf_geom.proofs.gap.squared_gap.Goals as goal
 
 pub returns-clause-value : goal.returns-clause-value
 unfolding gap2_to

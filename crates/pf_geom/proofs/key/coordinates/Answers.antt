@@ -1,22 +1,35 @@
-use Rattle.std.proofs.Common.{◌≡◌, ◌-◌, ◌*◌, ◌/◌, ◌^◌, arith}
-use Rattle.std.proofs.lemmas.Nat.{and_le_r}
-use Rattle.pf_geom.proofs.KeyLoops.{every_third_bit-more, every_third_bit-zero, every_third_bit-fits}
-use Rattle.pf_geom.proofs.key.every_third_bit.Goals as goal
+use Rattle.std.proofs.Common.{◌≡◌, ◌-◌, ◌*◌, ◌/◌, ◌^◌, refl, arith}
+use Rattle.pf_geom.proofs.KeyLoops.{AreRead-more, AreRead-none, AreRead-fit, Fit}
+use Rattle.pf_geom.proofs.key.coordinates.Goals as goal
+use Rattle.pf_geom.proofs.key.coordinates.Goals.{In-loop-place}
 
-pub loop-bit-init : goal.loop-bit-init
-loop-bit-init c =
+pub loop-place-init : goal.loop-place-init
+loop-place-init c =
     let none : c.args.count - c.args.count ≡ 0 = omega arith in
-    rw (none, every_third_bit-zero)
+    rw none (AreRead-none _)
 
-pub overflow_mul-bits : goal.overflow_mul-bits
-overflow_mul-bits c =
-    omega (arith, every_third_bit-fits (c.args.count - c.loop-bit.bit) (c.args.key / 2 ^ (3 * c.loop-bit.bit)))
+fit : (c : In-loop-place) → Fit c.loop-place.x c.loop-place.y c.loop-place.z
+fit c =
+    AreRead-fit (c.args.count - c.loop-place.place) _ c.loop-place.x c.loop-place.y c.loop-place.z (omega arith) c.loop-place.invariant
 
-pub overflow_add-bits : goal.overflow_add-bits
-overflow_add-bits c =
-    omega (arith, every_third_bit-fits (c.args.count - c.loop-bit.bit) (c.args.key / 2 ^ (3 * c.loop-bit.bit)), and_le_r (c.args.key / 2 ^ (3 * (c.loop-bit.bit - 1))) 1)
+pub overflow_mul-x : goal.overflow_mul-x
+overflow_mul-x c = let fits = (fit c).x_fits in omega arith
 
-pub loop-bit-preserved : goal.loop-bit-preserved
-loop-bit-preserved c =
-    let more = every_third_bit-more c.args.count c.args.key c.loop-bit.bit c.loop-bit-test.true c.loop-bit.auto.bit in
-    omega (arith, c.loop-bit.invariant, more)
+pub overflow_add-x : goal.overflow_add-x
+overflow_add-x c = let fits = (fit c).x_fits in omega arith
+
+pub overflow_mul-y : goal.overflow_mul-y
+overflow_mul-y c = let fits = (fit c).y_fits in omega arith
+
+pub overflow_add-y : goal.overflow_add-y
+overflow_add-y c = let fits = (fit c).y_fits in omega arith
+
+pub overflow_mul-z : goal.overflow_mul-z
+overflow_mul-z c = let fits = (fit c).z_fits in omega arith
+
+pub overflow_add-z : goal.overflow_add-z
+overflow_add-z c = let fits = (fit c).z_fits in omega arith
+
+pub loop-place-preserved : goal.loop-place-preserved
+loop-place-preserved c =
+    AreRead-more c.args.count c.args.key c.loop-place.place c.loop-place.x c.loop-place.y c.loop-place.z _ c.loop-place-test.true c.loop-place.auto.place refl c.loop-place.invariant

@@ -1,6 +1,6 @@
-use Rattle.std.proofs.Common.{◌≡◌, ◌-◌, ◌*◌, ◌/◌, ◌^◌}
-use Rattle.pf_geom.specs.Key.{every_third_bit}
-use Rattle.pf_geom.proofs.key.every_third_bit.Given as goal
+use Rattle.std.proofs.Common.{◌-◌, ◌*◌, ◌/◌, ◌^◌}
+use Rattle.pf_geom.proofs.KeyLoops.{AreRead}
+use Rattle.pf_geom.proofs.key.coordinates.Given as goal
 
-abbrev pub invariant-loop-bit : goal.invariant-loop-bit
-invariant-loop-bit l = l.bits ≡ every_third_bit (l.count - l.bit) (l.key / 2 ^ (3 * l.bit))
+abbrev pub invariant-loop-place : goal.invariant-loop-place
+invariant-loop-place l = AreRead (l.count - l.place) (l.key / 2 ^ (3 * l.place)) l.x l.y l.z
