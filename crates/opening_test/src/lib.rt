@@ -2,6 +2,9 @@
 // It stands on pf_model and pf_geom.
 #![tactic(auto)]
 
+mod gap_table;
+mod least_gaps;
 mod test;
 
+pub use least_gaps::LeastGaps;
 pub use test::passes;
