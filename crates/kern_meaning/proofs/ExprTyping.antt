@@ -4,7 +4,7 @@ use Rattle.kern_tree.specs.declared.expr.Expr.{Expr}
 use Rattle.kern_tree.specs.declared.kernel.Decl.{Decl}
 use Rattle.kern_tree.specs.Limits as limits
 use Rattle.kern_tree.specs.Limits.{IsLimited}
-use Rattle.kern_types.specs.declared.scope.Scope.{Scope}
+use Rattle.kern_types.specs.Scopes.{Scope}
 use Rattle.kern_types.specs.Forms.{part_type, one_type, three_type, to_type}
 use Rattle.kern_types.specs.Names.{name_type, type_of, form_typing, at_place}
 use Rattle.kern_meaning.specs.Expressions.{value_of, form_meaning, value_of_form}

@@ -16,7 +16,7 @@ use Rattle.kern_tree.specs.Limits as limits
 use Rattle.kern_tree.specs.Limits.{IsLimited, IsLimitedStmt, IsLimitedBlock}
 use Rattle.kern_types.specs.declared.expr_type.ExprType.{ExprType}
 use Rattle.kern_types.specs.declared.expr_type.ExprType.TheVariants as types
-use Rattle.kern_types.specs.declared.scope.Scope.{Scope}
+use Rattle.kern_types.specs.Scopes.{Scope}
 use Rattle.kern_types.specs.declared.scope.Variable.{Variable}
 use Rattle.kern_types.specs.Declarations.{same_kind}
 use Rattle.kern_types.specs.NameLists.{is_among, common}

@@ -4,7 +4,7 @@ use Rattle.pf_model.specs.Particle.{Particle}
 use Rattle.pf_model.specs.Totals.{Source}
 use Rattle.kern_tree.specs.declared.kernel.Decl.{Decl}
 use Rattle.kern_tree.specs.declared.kernel.Kernel.{Kernel}
-use Rattle.kern_types.specs.declared.scope.Scope.{Scope}
+use Rattle.kern_types.specs.Scopes.{Scope}
 use Rattle.kern_tree.specs.Limits.{ParsedKernelsKeepLimits, KeepsLimits}
 use Rattle.kern_types.specs.Declarations.{all_decls_check}
 use Rattle.kern_types.specs.Names.{declaration}

@@ -12,7 +12,7 @@ use Rattle.kern_tree.proofs.stmt.Act.TheLaws.{the_size as act_size}
 use Rattle.kern_tree.proofs.stmt.Stmt.TheLaws.{the_size as stmt_size}
 use denote.Param.Weighed.{most}
 use Rattle.kern_types.specs.declared.fault.TypeFault.{TypeFault}
-use Rattle.kern_types.specs.declared.scope.Scope.{Scope}
+use Rattle.kern_types.specs.Scopes.{Scope}
 use Rattle.kern_types.specs.NameLists.{common}
 use Rattle.kern_types.specs.Statements.{ScopeChange, act_after, act_scope, at_stmt_place, act_slots, stmt_slots, if_check, slots_in, slots_in_act, stmt_after, stmts_after}
 use Rattle.kern_types.specs.Steps.{◌>>=◌, ◌>>◌}

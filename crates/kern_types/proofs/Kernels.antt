@@ -2,7 +2,7 @@
 use Rattle.std.proofs.Common.{◌≡◌, ◌⊎◌, inl, inr, refl, Ok, Err, ap, ◌∙◌, sym}
 use Rattle.kern_tree.specs.declared.kernel.Kernel.{Kernel}
 use Rattle.kern_types.specs.declared.fault.TypeFault.{TypeFault}
-use Rattle.kern_types.specs.declared.scope.Scope.{Scope}
+use Rattle.kern_types.specs.Scopes.{Scope}
 use Rattle.kern_types.specs.Declarations.{all_decls_check}
 use Rattle.kern_types.specs.Statements.{stmts_after}
 use Rattle.kern_types.specs.OneTyping.{SomeTyping, OneTyping, OneTypeFault}

@@ -2,3 +2,4 @@ pub mod Acts
 pub mod Kernels
 pub mod Nodes
 pub mod Nothing
+pub mod Numbers

@@ -5,6 +5,7 @@ pub mod Forms
 pub mod NameLists
 pub mod Names
 pub mod OneTyping
+pub mod Scopes
 pub mod Statements
 pub mod Steps
 pub mod WellTyped

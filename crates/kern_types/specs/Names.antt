@@ -13,7 +13,7 @@ use Rattle.kern_tree.specs.declared.kernel.Kind.TheVariants as kinds
 use Rattle.kern_types.specs.declared.expr_type.ExprType.{ExprType}
 use Rattle.kern_types.specs.declared.expr_type.ExprType.TheVariants.{Scaled}
 use Rattle.kern_types.specs.declared.fault.TypeFault.TheVariants as faults
-use Rattle.kern_types.specs.declared.scope.Scope.{Scope}
+use Rattle.kern_types.specs.Scopes.{Scope}
 use Rattle.kern_types.specs.declared.scope.Variable.{Variable}
 use Rattle.kern_types.specs.Forms.{one_type, two_type, three_type, to_type, part_type}
 use Rattle.kern_types.specs.NameLists.{is_among}

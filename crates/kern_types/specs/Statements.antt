@@ -14,7 +14,7 @@ use Rattle.kern_tree.specs.Nodes.{act_nodes, stmt_step}
 use Rattle.kern_types.specs.declared.expr_type.ExprType.{ExprType}
 use Rattle.kern_types.specs.declared.expr_type.ExprType.TheVariants.{Scaled, Condition}
 use Rattle.kern_types.specs.declared.fault.TypeFault.TheVariants as faults
-use Rattle.kern_types.specs.declared.scope.Scope.{Scope}
+use Rattle.kern_types.specs.Scopes.{Scope}
 use Rattle.kern_types.specs.declared.scope.Variable.{Variable}
 use Rattle.kern_types.specs.Declarations.{same_kind}
 use Rattle.kern_types.specs.NameLists.{common}

@@ -3,7 +3,7 @@ use Rattle.std.specs.Prelude.{◌≡◌, ℕ, List, [], Ok, Err}
 use Rattle.kern_tree.specs.declared.kernel.Kernel.{Kernel}
 use Rattle.kern_tree.specs.Parsed.{IsParsed}
 use Rattle.kern_types.specs.declared.fault.TypeFault.{TypeFault}
-use Rattle.kern_types.specs.declared.scope.Scope.{Scope}
+use Rattle.kern_types.specs.Scopes.{Scope}
 use Rattle.kern_types.specs.declared.force_var.ForceVar.{ForceVar}
 use Rattle.kern_types.specs.Declarations.{all_decls_check, forces_of}
 use Rattle.kern_types.specs.Statements.{stmts_after, slots_in}

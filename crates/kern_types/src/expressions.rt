@@ -62,7 +62,7 @@ fn assigned_type(scope: &Scope, place: u32, name: &Name) -> Result<ExprType, Typ
 {
     match scope.assignment(name) {
         None => Err(TypeFault::Unknown(place)),
-        Some(_) if !scope.certain.contains(name) => Err(TypeFault::Unassigned(place)),
+        Some(_) if !scope.is_certain(name) => Err(TypeFault::Unassigned(place)),
         Some(variable) => Ok(ExprType::Scaled(variable.kind, variable.scale)),
     }
 }

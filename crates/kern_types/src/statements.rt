@@ -1,4 +1,5 @@
-ghost use Rattle.std.specs.Prelude.{◌≡◌};
+ghost use Rattle.std.specs.Prelude.{◌≡◌, OnOk};
+ghost use Rattle.kern_types.specs.Scopes.{Grows};
 ghost use Rattle.kern_types.specs.Statements as rules;
 ghost use Rattle.kern_types.specs.Steps.{LeavesAnswer};
 
@@ -16,7 +17,8 @@ pub(crate) fn check_block(
     scope: &mut Scope,
     block: &[Stmt],
 ) -> Result<(), TypeFault>
-    ensures { LeavesAnswer result scope.new (rules.stmts_after decls.now block.now scope.old) }
+    ensures answer { LeavesAnswer result scope.new (rules.stmts_after decls.now block.now scope.old) }
+    ensures grows { OnOk result (Grows scope.old.earlier scope.new.earlier) }
 {
     for stmt in block {
         check_act(decls, scope, stmt.place, &stmt.act)?;
@@ -26,18 +28,19 @@ pub(crate) fn check_block(
 
 #[cycle(statements)]
 fn check_act(decls: &[Decl], scope: &mut Scope, place: u32, act: &Act) -> Result<(), TypeFault>
-    ensures { LeavesAnswer result scope.new (rules.act_scope decls.now act.now place scope.old) }
+    ensures answer { LeavesAnswer result scope.new (rules.act_scope decls.now act.now place scope.old) }
+    ensures grows { OnOk result (Grows scope.old.earlier scope.new.earlier) }
 {
     match act {
         Act::Set(name, value) => check_set(decls, scope, place, name, value),
         Act::Give(name, value) => check_give(decls, scope, place, name, value),
         Act::If(condition, block, other) => {
             check_condition(decls, scope, place, condition)?;
-            let certain = scope.certain_names()?;
+            let certain = scope.certain()?;
             check_block(decls, scope, block.as_slice())?;
             let first = scope.begin_other(certain);
             check_block(decls, scope, other.as_slice())?;
-            scope.join(&first);
+            scope.join(first.as_slice());
             Ok(())
         }
     }
@@ -50,8 +53,9 @@ fn check_set(
     name: &Name,
     value: &Expr,
 ) -> Result<(), TypeFault>
-    ensures { LeavesAnswer result scope.new
+    ensures answer { LeavesAnswer result scope.new
         (rules.assignment_after decls.now place name.now value.now scope.old) }
+    ensures grows { OnOk result (Grows scope.old.earlier scope.new.earlier) }
 {
     let ExprType::Scaled(kind, scale) = type_of(decls, scope, value)? else {
         return Err(TypeFault::Kind(place));

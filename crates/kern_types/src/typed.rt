@@ -7,12 +7,10 @@ ghost use Rattle.kern_types.specs.declared.fault.TypeFault.TheVariants.{Memory};
 
 use crate::contributions::count_slots;
 use crate::declarations::{check_decls, forces_of};
-use crate::names::Names;
 use crate::scope::Scope;
 use crate::statements::check_block;
 use crate::{ForceVar, TypeFault};
 use kern_tree::Kernel;
-use sqlite_items::Items;
 use std::alloc::Global;
 use std::marker::Model;
 
@@ -60,10 +58,7 @@ fn check_kernel(alloc: Global, k: &Kernel) -> Result<(), TypeFault>
 {
     let decls = k.decls.as_slice();
     check_decls(decls)?;
-    let mut scope = Scope {
-        earlier: Items::new(alloc),
-        certain: Names::new(alloc),
-    };
+    let mut scope = Scope::new(alloc);
     check_block(decls, &mut scope, k.body.as_slice())
 }
 
