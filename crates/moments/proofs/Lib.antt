@@ -1,2 +1,3 @@
 pub mod MomentLemmas
 pub mod PrefixLemmas
+pub mod SumLemmas

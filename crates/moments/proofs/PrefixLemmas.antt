@@ -1,16 +1,15 @@
 -- The moments of prefixes and ranges of a list, and their limits.
 use Rattle.std.proofs.Common.{◌≡◌, ℕ, ◌+◌, ◌-◌, ◌*◌, ◌^◌, ◌<◌, ◌≤◌, ℤ, pos, ◌+ℤ◌, unsigned_abs, List, [], ◌∷◌, ◌++◌, length, get_or, take, drop, map, inl, inr, refl, sym, ◌∙◌, ap, subst, arith}
 use Rattle.std.specs.List.{All, range_with_len}
-use Rattle.std.proofs.Math.Seq.{take-add}
+use Rattle.std.proofs.Math.Seq.{take-add, take-append_seam}
 use Rattle.std.proofs.lemmas.Int.{ints}
 use Rattle.std.proofs.lemmas.Bool.{cases_lt}
-use Rattle.std.proofs.lemmas.List.{get_or_past, length-take, length-drop, take_more}
+use Rattle.std.proofs.lemmas.List.{get_or_past, length-take, take_more}
 use Rattle.std.proofs.lemmas.List.FromFn.{length-map-range_with_len, get_or-map-range_with_len, map-range_with_len_more}
-use Rattle.std.proofs.lemmas.List.Elements.{All-nil, All-cons, All-head, All-tail, All-weaker, All-take, All-drop, All-replicate, All-same, All-push}
+use Rattle.std.proofs.lemmas.List.Elements.{All-nil, All-cons, All-head, All-tail, All-weaker, All-replicate, All-same, All-push}
 use Rattle.pf_model.specs.Particle.{Particle}
 use Rattle.pf_model.specs.Totals.{Totals, IsTotals}
 use Rattle.pf_model.specs.Sums.{moment_of, together, pairwise_sums}
-use Rattle.pf_model.specs.MomentLaws.{MomentsCancel}
 use Rattle.moments.specs.Prefix.{prefix_moments, HasLimitedMoment}
 use Rattle.moments.proofs.MomentLemmas.{moments_join}
 
@@ -28,11 +27,11 @@ pub count_is : (js : List Particle) → (moment_of js).count ≡ length js
 unfolding moment_of
 count_is js = refl
 
-three_weighted : (js : List Particle) → length (moment_of js).weighted ≡ 3
+pub three_weighted : (js : List Particle) → length (moment_of js).weighted ≡ 3
 unfolding moment_of
 three_weighted js = refl
 
-eight_attributes : (js : List Particle) → length (moment_of js).attr ≡ 8
+pub eight_attributes : (js : List Particle) → length (moment_of js).attr ≡ 8
 unfolding moment_of
 eight_attributes js = refl
 
@@ -65,7 +64,7 @@ at_most most ws k all =
 three_of : (P : ℕ → Type 0) (a b c : ℕ) → P a → P b → P c → All P (a ∷ b ∷ c ∷ [])
 three_of P a b c p q r = All-cons P a (b ∷ c ∷ []) p (All-cons P b (c ∷ []) q (All-cons P c [] r (All-nil P)))
 
-IsTotals-together : (m n : Totals) → m.count + n.count ≤ 65536 → IsTotals m → IsTotals n → IsTotals (together m n)
+pub IsTotals-together : (m n : Totals) → m.count + n.count ≤ 65536 → IsTotals m → IsTotals n → IsTotals (together m n)
 IsTotals-together m n few p q =
     let ps = p.limits.sums in
     let qs = q.limits.sums in
@@ -87,7 +86,7 @@ IsTotals-together m n few p q =
       };
     }
 
-IsTotals-none : IsTotals (moment_of [])
+pub IsTotals-none : IsTotals (moment_of [])
 unfolding moment_of
 IsTotals-none = record {
   three = refl;
@@ -103,19 +102,6 @@ IsTotals-none = record {
   };
 }
 
--- a moment of few particles keeps the limits
-pub IsTotals-moment_of : (js : List Particle) → length js ≤ 65536 → All HasLimitedMoment js → IsTotals (moment_of js)
-IsTotals-moment_of [] few limits = IsTotals-none
-IsTotals-moment_of (j ∷ js) few limits =
-    let one = All-head HasLimitedMoment j js limits in
-    let more = IsTotals-moment_of js (omega arith) (All-tail HasLimitedMoment j js limits) in
-    let counts : (moment_of (j ∷ [])).count + (moment_of js).count ≤ 65536 = rw (count_is (j ∷ []), count_is js) (omega arith) in
-    subst IsTotals (sym (moments_join (j ∷ []) js)) (IsTotals-together (moment_of (j ∷ [])) (moment_of js) counts one more)
-
-pub range_limits : (js : List Particle) (i n : ℕ) → length js ≤ 65536 → All HasLimitedMoment js → IsTotals (moment_of (take n (drop i js)))
-range_limits js i n few limits =
-    IsTotals-moment_of (take n (drop i js)) (simp (length-take, length-drop) (omega arith)) (All-take HasLimitedMoment n (drop i js) (All-drop HasLimitedMoment i js limits))
-
 -- the moment at a place
 at_prefix : (js : List Particle) (ms : List Totals) (k : ℕ) (d : Totals) → ms ≡ prefix_moments js → k < length ms → get_or ms k d ≡ moment_of (take k js)
 at_prefix js ms k d is within =
@@ -129,19 +115,6 @@ range_makes js ms i n through before is within at_end at_start =
     let before_is = at_start ∙ at_prefix js ms i before is (omega arith) in
     at_end ∙ at_prefix js ms (i + n) through is within ∙ ap moment_of (take-add i n js) ∙ moments_join (take i js) (take n (drop i js))
     ∙ ap (λ (t : Totals). together t (moment_of (take n (drop i js)))) (sym before_is)
-
--- the same of the moments of prefixes alone
-range_joins : (js : List Particle) (ms : List Totals) (i n : ℕ) (d : Totals) → ms ≡ prefix_moments js → i + n < length ms → get_or ms (i + n) d ≡ together (moment_of (take i js)) (moment_of (take n (drop i js)))
-range_joins js ms i n d is within = at_prefix js ms (i + n) d is within ∙ ap moment_of (take-add i n js) ∙ moments_join (take i js) (take n (drop i js))
-
--- lists with the same prefix moments have the same moments of ranges
-pub same_range : MomentsCancel → (js ks : List Particle) (ms : List Totals) (i n : ℕ) → ms ≡ prefix_moments js → ms ≡ prefix_moments ks → i + n < length ms → moment_of (take n (drop i js)) ≡ moment_of (take n (drop i ks))
-same_range cancel js ks ms i n p q within =
-    let d = moment_of [] in
-    let rest = moment_of (take n (drop i ks)) in
-    let starts = sym (at_prefix ks ms i d q (omega arith)) ∙ at_prefix js ms i d p (omega arith) in
-    cancel (take i js) (take n (drop i js)) (take n (drop i ks))
-    (sym (range_joins js ms i n d p within) ∙ range_joins ks ms i n d q within ∙ ap (λ (t : Totals). together t rest) starts)
 
 -- one particle more
 
@@ -167,3 +140,7 @@ count_more js i j so_far one within few so_far_is one_is =
     let a = ap (λ (t : Totals). t.count) so_far_is ∙ count_is (take i js) ∙ length-take i js in
     let b = ap (λ (t : Totals). t.count) one_is ∙ count_is (j ∷ []) in
     omega arith
+
+-- what is written to a whole list is what it holds then
+pub put_back : (len : ℕ) (old new : List Totals) → len ≡ length new → take len (new ++ drop (length new) old) ≡ new
+put_back len old new whole = ap (λ (n : ℕ). take n (new ++ drop (length new) old)) whole ∙ take-append_seam new (drop (length new) old)

@@ -1,10 +1,10 @@
--- Prefix sums over a list of particles.
-use Rattle.std.specs.Prelude.{◌≡◌, ◌+◌, ◌≤◌, List, [], ◌∷◌, length, take, map, All}
+-- Prefix sums over a list of particles, or of moments.
+use Rattle.std.specs.Prelude.{◌≡◌, ℕ, ◌+◌, ◌≤◌, List, [], ◌∷◌, length, take, map, sum_by, All}
 use Rattle.std.specs.List.{range_with_len}
 use Rattle.pf_model.specs.declared.limits.TheConstants.{MOST_PARTICLES}
 use Rattle.pf_model.specs.Particle.{Particle}
 use Rattle.pf_model.specs.Totals.{Totals, IsTotals}
-use Rattle.pf_model.specs.Sums.{moment_of}
+use Rattle.pf_model.specs.Sums.{moment_of, together}
 
 -- the moments of the first particles, for each count of them from none to all
 abbrev pub prefix_moments : List Particle → List Totals
@@ -14,12 +14,26 @@ prefix_moments js = map (λ k. moment_of (take k js)) (range_with_len 0 (length 
 abbrev pub HasLimitedMoment : Particle → Type 0
 HasLimitedMoment j = IsTotals (moment_of (j ∷ []))
 
--- the prefix moments of few enough particles
-pub record IsPrefixOf (js : List Particle) (ms : List Totals) : Type 0 where
-  pub few : length js ≤ MOST_PARTICLES
-  pub limits : All HasLimitedMoment js
-  pub moments : ms ≡ prefix_moments js
+-- some moments added up
+abbrev pub all_together : List Totals → Totals
+all_together [] = moment_of []
+all_together (m ∷ ms) = together m (all_together ms)
 
--- prefix moments that a `Prefix` can hold
+-- the sums of the first of these moments, for each count of them from none to all
+abbrev pub prefix_sums : List Totals → List Totals
+prefix_sums ms = map (λ k. all_together (take k ms)) (range_with_len 0 (length ms + 1))
+
+-- how many particles they are of
+abbrev pub particle_count : List Totals → ℕ
+particle_count ms = sum_by (λ m. m.count) ms
+
+-- the sums of few enough moments, of few enough particles together
+pub record IsPrefixOf (ms sums : List Totals) : Type 0 where
+  pub few : length ms ≤ MOST_PARTICLES
+  pub few_particles : particle_count ms ≤ MOST_PARTICLES
+  pub limits : All IsTotals ms
+  pub summed : sums ≡ prefix_sums ms
+
+-- sums that a `Prefix` can hold
 abbrev pub IsPrefix : List Totals → Type 0
-IsPrefix ms = (js : List Particle) × IsPrefixOf js ms
+IsPrefix sums = (ms : List Totals) × IsPrefixOf ms sums

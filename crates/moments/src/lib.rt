@@ -7,5 +7,5 @@ mod prefix;
 mod source;
 
 pub use moment::{merge, of_one};
-pub use prefix::{Prefix, prefix_of};
+pub use prefix::{Prefix, prefix_of, prefix_over};
 pub use source::{centre, item};

@@ -1,38 +1,53 @@
 use Rattle.std.proofs.Common.{◌+◌, ◌<◌, List, length, take, drop, ◌∙◌, ap, sym, arith}
 use Rattle.pf_model.specs.Totals.{Totals}
 use Rattle.pf_model.specs.Sums.{moment_of, IsRest}
-use Rattle.moments.proofs.PrefixLemmas.{prefix_length, range_makes, range_limits, same_range}
+use Rattle.moments.specs.Prefix.{all_together}
+use Rattle.moments.proofs.PrefixLemmas.{range_makes, three_weighted, eight_attributes}
+use Rattle.moments.proofs.SumLemmas.{sums_length, sum_makes, part_limits, cancel, three_of_all, eight_of_part, eight_before}
 use Rattle.moments.proofs.prefix.Prefix.range.Goals as goal
 
 pub overflow_add-first : goal.overflow_add-first
 overflow_add-first c =
-    let js = c.self.invariant.0 in
     let is = c.self.invariant.1 in
-    let long = ap (λ (ms : List Totals). length ms) (sym c.self.view_is ∙ is.moments) ∙ prefix_length js in
+    let long = ap (λ (ts : List Totals). length ts) (sym c.self.view_is ∙ is.summed) ∙ sums_length c.self.invariant.0 in
     let few = is.few in
     let inside = c.requires in
     omega arith
 
 pub without-requires : goal.without-requires
 without-requires c =
-    let js = c.self.invariant.0 in
+    let ms = c.self.invariant.0 in
     let is = c.self.invariant.1 in
-    let inside : c.args.first + c.args.len < length c.self.inside.moments.items =
-    (let same = ap (λ (ms : List Totals). length ms) c.self.view_is in let h = c.requires in omega arith) in (
-      moment_of (take c.args.len (drop c.args.first js)),
+    let sums = c.self.inside.moments.items in
+    let inside : c.args.first + c.args.len < length sums = (let same = ap (λ (ts : List Totals). length ts) c.self.view_is in let h = c.requires in omega arith) in (
+      all_together (take c.args.len (drop c.args.first ms)),
       record {
-        limits = range_limits js c.args.first c.args.len is.few is.limits;
-        makes = range_makes js c.self.inside.moments.items c.args.first c.args.len _ _ is.moments inside c.index-through.ensures c.index-before.ensures;
+        limits = part_limits ms c.args.first c.args.len is.few_particles is.limits;
+        makes = sum_makes ms sums c.args.first c.args.len _ _ is.summed inside c.index-through.ensures c.index-before.ensures;
       },
     )
 
 pub returns : goal.returns
-returns c = λ ks e.
-    let js = c.self.invariant.0 in
+returns c =
+    let ms = c.self.invariant.0 in
     let is = c.self.invariant.1 in
-    let inside : c.args.first + c.args.len < length c.self.inside.moments.items =
-    (let same = ap (λ (ms : List Totals). length ms) c.self.view_is in let h = c.requires in omega arith) in
-    let makes = range_makes js c.self.inside.moments.items c.args.first c.args.len _ _ is.moments inside c.index-through.ensures c.index-before.ensures in
-    let rest : IsRest c.index-through.result.now c.index-before.result.now (moment_of (take c.args.len (drop c.args.first js))) = record { limits = range_limits js c.args.first c.args.len is.few is.limits; makes = makes } in
-    c.without.ensures (moment_of (take c.args.len (drop c.args.first js))) rest
-    ∙ same_range c.moments_cancel.ensures js ks c.self.inside.moments.items c.args.first c.args.len is.moments (c.self.view_is ∙ e) inside
+    let sums = c.self.inside.moments.items in
+    let first = c.args.first in
+    let len = c.args.len in
+    let before : Totals = c.index-before.result.now in
+    let through : Totals = c.index-through.result.now in
+    let inside : first + len < length sums = (let same = ap (λ (ts : List Totals). length ts) c.self.view_is in let h = c.requires in omega arith) in
+    let part = all_together (take len (drop first ms)) in
+    let limits = part_limits ms first len is.few_particles is.limits in
+    let makes = sum_makes ms sums first len through before is.summed inside c.index-through.ensures c.index-before.ensures in
+    let rest : IsRest through before part = record { limits = limits; makes = makes } in
+    let found = c.without.ensures part rest in
+    let eight = eight_before ms sums first before is.limits is.summed (omega arith) c.index-before.ensures in
+    record {
+      bodies = λ js e.
+          let other = range_makes js sums first len through before (c.self.view_is ∙ e) inside c.index-through.ensures c.index-before.ensures in
+          found ∙ cancel before part (moment_of (take len (drop first js))) eight limits.eight (eight_attributes (take len (drop first js))) limits.three (three_weighted (take len (drop first js))) (sym makes ∙ other);
+      moments = λ ns e each.
+          let other = sum_makes ns sums first len through before (c.self.view_is ∙ e) inside c.index-through.ensures c.index-before.ensures in
+          found ∙ cancel before part (all_together (take len (drop first ns))) eight limits.eight (eight_of_part ns first len each) limits.three (three_of_all (take len (drop first ns))) (sym makes ∙ other);
+    }

@@ -1,14 +1,13 @@
-use Rattle.std.proofs.Common.{◌≡◌, ℕ, List, ◌++◌, take, drop, length, sym, ◌∙◌, ap, arith}
-use Rattle.std.proofs.Math.Seq.{take-append_seam}
+use Rattle.std.proofs.Common.{List, length, sym, ◌∙◌, ap, arith}
 use Rattle.pf_model.specs.Totals.{Totals}
-use Rattle.moments.proofs.PrefixLemmas.{prefix_length}
+use Rattle.moments.proofs.PrefixLemmas.{prefix_length, put_back}
+use Rattle.moments.proofs.SumLemmas.{sums_length, IsPrefix-of_particles}
 use Rattle.moments.proofs.prefix.Prefix.refill.Goals as goal
 
 pub fill-requires-clause-few : goal.fill-requires-clause-few
 fill-requires-clause-few c =
-    let js = c.self.invariant.0 in
     let is = c.self.invariant.1 in
-    let long = ap (λ (ms : List Totals). length ms) (sym c.self.view_is ∙ is.moments) ∙ prefix_length js in
+    let old = ap (λ (ts : List Totals). length ts) (sym c.self.view_is ∙ is.summed) ∙ sums_length c.self.invariant.0 in
     let few = is.few in
     let room = c.requires in
     omega arith
@@ -16,12 +15,11 @@ fill-requires-clause-few c =
 pub invariant_of-self : goal.invariant_of-self
 invariant_of-self c =
     let js = c.args.bodies.now in
-    let few = c.self.invariant.1.few in
-    let old = ap (λ (ms : List Totals). length ms) (sym c.self.view_is ∙ c.self.invariant.1.moments) ∙ prefix_length c.self.invariant.0 in
-    let new = ap (λ (ms : List Totals). length ms) c.fill.ensures.value ∙ prefix_length js in
+    let is = c.self.invariant.1 in
+    let few = is.few in
+    let old = ap (λ (ts : List Totals). length ts) (sym c.self.view_is ∙ is.summed) ∙ sums_length c.self.invariant.0 in
+    let new = ap (λ (ts : List Totals). length ts) c.fill.ensures.value ∙ prefix_length js in
     let room = c.requires in
     let whole = c.self.inside.moments.ok in
-    let len : c.self.inside.moments.len ≡ length c.fill.new.moments = omega arith in
-    let written = ap (λ (n : ℕ). take n (c.fill.new.moments ++ drop (length c.fill.new.moments) c.self.inside.moments.items)) len
-    ∙ take-append_seam c.fill.new.moments (drop (length c.fill.new.moments) c.self.inside.moments.items) in
-    (js, record { few = omega arith; limits = c.fill.ensures.limits; moments = written ∙ c.fill.ensures.value })
+    let written = put_back c.self.inside.moments.len c.self.inside.moments.items c.fill.new.moments (omega arith) in
+    IsPrefix-of_particles js _ (omega arith) c.fill.ensures.limits (written ∙ c.fill.ensures.value)

@@ -15,4 +15,4 @@ range-requires c =
 
 pub returns : goal.returns
 returns c =
-    c.range.ensures c.self.inside.bodies.items c.self.invariant.moments ∙ ap (λ (t : Octree). moment_of (at_span c.args.s t.bodies)) c.self.view_is
+    c.range.ensures.bodies c.self.inside.bodies.items c.self.invariant.moments ∙ ap (λ (t : Octree). moment_of (at_span c.args.s t.bodies)) c.self.view_is

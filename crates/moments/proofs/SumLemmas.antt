@@ -1,0 +1,214 @@
+-- Sums of moments, their limits, and the sums of the first of a list.
+use Rattle.std.proofs.Common.{◌≡◌, ℕ, ◌+◌, ◌<◌, ◌≤◌, ℤ, pos, ◌+ℤ◌, List, [], ◌∷◌, ◌++◌, length, get_or, take, drop, map, refl, sym, ◌∙◌, ap, arith}
+use Rattle.std.specs.List.{All, range_with_len}
+use Rattle.std.proofs.Math.Seq.{take-add}
+use Rattle.std.proofs.lemmas.Int.{ints}
+use Rattle.std.proofs.lemmas.List.{length-map, take-map, take_more}
+use Rattle.std.proofs.lemmas.List.FromFn.{length-map-range_with_len, get_or-map-range_with_len, map-range_with_len_more}
+use Rattle.std.proofs.lemmas.List.Sums.{sum_by-cons, sum_by-take-le, sum_by-take-drop, sum_by_more_le}
+use Rattle.std.proofs.lemmas.List.Elements.{All-head, All-tail, All-take, All-drop, All-map, All-same, All-push}
+use Rattle.pf_model.specs.Particle.{Particle}
+use Rattle.pf_model.specs.Totals.{Totals, IsTotals}
+use Rattle.pf_model.specs.Sums.{moment_of, together, pairwise_sums}
+use Rattle.moments.specs.Prefix.{prefix_moments, HasLimitedMoment, all_together, prefix_sums, particle_count, IsPrefix}
+use Rattle.moments.proofs.MomentLemmas.{moments_join}
+use Rattle.moments.proofs.PrefixLemmas.{count_is, three_weighted, eight_attributes, IsTotals-together, IsTotals-none}
+
+sums_comm : (xs ys : List ℤ) → pairwise_sums xs ys ≡ pairwise_sums ys xs
+sums_comm [] [] = refl
+sums_comm [] (y ∷ ys) = refl
+sums_comm (x ∷ xs) [] = refl
+sums_comm (x ∷ xs) (y ∷ ys) =
+    let head : x +ℤ y ≡ y +ℤ x = omega (arith, ints) in
+    let rest = sums_comm xs ys in
+    λ i. head i ∷ rest i
+
+sums_assoc : (xs ys zs : List ℤ) → pairwise_sums (pairwise_sums xs ys) zs ≡ pairwise_sums xs (pairwise_sums ys zs)
+sums_assoc [] ys zs = refl
+sums_assoc (x ∷ xs) [] zs = refl
+sums_assoc (x ∷ xs) (y ∷ ys) [] = refl
+sums_assoc (x ∷ xs) (y ∷ ys) (z ∷ zs) =
+    let head : (x +ℤ y) +ℤ z ≡ x +ℤ (y +ℤ z) = omega (arith, ints) in
+    let rest = sums_assoc xs ys zs in
+    λ i. head i ∷ rest i
+
+together-comm : (m n : Totals) → together m n ≡ together n m
+together-comm m n =
+    let count : m.count + n.count ≡ n.count + m.count = omega arith in
+    let mass : m.mass + n.mass ≡ n.mass + m.mass = omega arith in
+    let each : (k : ℕ) → get_or m.weighted k 0 + get_or n.weighted k 0 ≡ get_or n.weighted k 0 + get_or m.weighted k 0 = λ k. omega arith in
+    λ i. record { count = count i; mass = mass i; weighted = each 0 i ∷ each 1 i ∷ each 2 i ∷ []; attr = sums_comm m.attr n.attr i }
+
+together-assoc : (m n o : Totals) → together (together m n) o ≡ together m (together n o)
+together-assoc m n o =
+    let count : (m.count + n.count) + o.count ≡ m.count + (n.count + o.count) = omega arith in
+    let mass : (m.mass + n.mass) + o.mass ≡ m.mass + (n.mass + o.mass) = omega arith in
+    let each : (k : ℕ) → (get_or m.weighted k 0 + get_or n.weighted k 0) + get_or o.weighted k 0 ≡ get_or m.weighted k 0 + (get_or n.weighted k 0 + get_or o.weighted k 0) = λ k. omega arith in
+    λ i. record { count = count i; mass = mass i; weighted = each 0 i ∷ each 1 i ∷ each 2 i ∷ []; attr = sums_assoc m.attr n.attr o.attr i }
+
+-- two of three exchanged
+together-turn : (m n o : Totals) → together m (together n o) ≡ together n (together m o)
+together-turn m n o = sym (together-assoc m n o) ∙ ap (λ (x : Totals). together x o) (together-comm m n) ∙ together-assoc n m o
+
+none_together : together (moment_of []) (moment_of []) ≡ moment_of []
+unfolding moment_of
+none_together = refl
+
+with_none : (ms : List Totals) → together (moment_of []) (all_together ms) ≡ all_together ms
+with_none [] = none_together
+with_none (m ∷ ms) = together-turn (moment_of []) m (all_together ms) ∙ ap (together m) (with_none ms)
+
+all-append : (ms ns : List Totals) → all_together (ms ++ ns) ≡ together (all_together ms) (all_together ns)
+all-append [] ns = sym (with_none ns)
+all-append (m ∷ ms) ns = ap (together m) (all-append ms ns) ∙ sym (together-assoc m (all_together ms) (all_together ns))
+
+all-push : (ms : List Totals) (m : Totals) → all_together (ms ++ m ∷ []) ≡ together (all_together ms) m
+all-push [] m = together-comm m (moment_of [])
+all-push (n ∷ ns) m = ap (together n) (all-push ns m) ∙ sym (together-assoc n (all_together ns) m)
+
+-- how many particles, and how many numbers there are of them
+
+no_count : (moment_of []).count ≡ 0
+unfolding moment_of
+no_count = refl
+
+counted : (ms : List Totals) → (all_together ms).count ≡ particle_count ms
+counted [] = no_count
+counted (m ∷ ms) = ap (λ (n : ℕ). m.count + n) (counted ms) ∙ sym (sum_by-cons (λ (t : Totals). t.count) m ms)
+
+pub three_of_all : (ms : List Totals) → length (all_together ms).weighted ≡ 3
+three_of_all [] = three_weighted []
+three_of_all (m ∷ ms) = refl
+
+length-sums : (xs ys : List ℤ) (n : ℕ) → length xs ≡ n → length ys ≡ n → length (pairwise_sums xs ys) ≡ n
+length-sums [] ys n e f = e
+length-sums (x ∷ xs) [] n e f = f
+length-sums (x ∷ xs) (y ∷ ys) n e f = let rest = length-sums xs ys (length xs) refl (omega arith) in omega arith
+
+eight_of_all : (ms : List Totals) → All IsTotals ms → length (all_together ms).attr ≡ 8
+eight_of_all [] limits = eight_attributes []
+eight_of_all (m ∷ ms) limits = length-sums m.attr (all_together ms).attr 8 (All-head IsTotals m ms limits).eight (eight_of_all ms (All-tail IsTotals m ms limits))
+
+-- the limits of them all
+IsTotals-all : (ms : List Totals) → particle_count ms ≤ 65536 → All IsTotals ms → IsTotals (all_together ms)
+IsTotals-all [] few limits = IsTotals-none
+IsTotals-all (m ∷ ms) few limits =
+    let cons = sum_by-cons (λ (t : Totals). t.count) m ms in
+    let count = counted ms in
+    IsTotals-together m (all_together ms) (omega arith) (All-head IsTotals m ms limits) (IsTotals-all ms (omega arith) (All-tail IsTotals m ms limits))
+
+pub part_limits : (ms : List Totals) (i n : ℕ) → particle_count ms ≤ 65536 → All IsTotals ms → IsTotals (all_together (take n (drop i ms)))
+part_limits ms i n few limits =
+    let part = sum_by-take-le (λ (t : Totals). t.count) (drop i ms) n in
+    let rest = sum_by-take-drop (λ (t : Totals). t.count) ms i in
+    IsTotals-all (take n (drop i ms)) (omega arith) (All-take IsTotals n (drop i ms) (All-drop IsTotals i ms limits))
+
+-- what makes one moment with another is told by both
+
+three_numbers : (ws : List ℕ) → length ws ≡ 3 → ws ≡ get_or ws 0 0 ∷ get_or ws 1 0 ∷ get_or ws 2 0 ∷ []
+three_numbers [] e = absurd (omega arith)
+three_numbers (a ∷ []) e = absurd (omega arith)
+three_numbers (a ∷ b ∷ []) e = absurd (omega arith)
+three_numbers (a ∷ b ∷ c ∷ []) e = refl
+three_numbers (a ∷ b ∷ c ∷ d ∷ ws) e = absurd (omega arith)
+
+sums_cancel : (xs ys zs : List ℤ) → length xs ≡ length ys → length xs ≡ length zs → pairwise_sums xs ys ≡ pairwise_sums xs zs → ys ≡ zs
+sums_cancel [] [] [] e f same = refl
+sums_cancel [] [] (z ∷ zs) e f same = absurd (omega arith)
+sums_cancel [] (y ∷ ys) zs e f same = absurd (omega arith)
+sums_cancel (x ∷ xs) [] zs e f same = absurd (omega arith)
+sums_cancel (x ∷ xs) (y ∷ ys) [] e f same = absurd (omega arith)
+sums_cancel (x ∷ xs) (y ∷ ys) (z ∷ zs) e f same =
+    let head : x +ℤ y ≡ x +ℤ z = ap (λ (l : List ℤ). get_or l 0 (pos 0)) same in
+    let first : y ≡ z = omega (arith, ints) in
+    let rest = sums_cancel xs ys zs (omega arith) (omega arith) (ap (λ (l : List ℤ). drop 1 l) same) in
+    λ i. first i ∷ rest i
+
+pub cancel : (b r s : Totals) → length b.attr ≡ 8 → length r.attr ≡ 8 → length s.attr ≡ 8 → length r.weighted ≡ 3 → length s.weighted ≡ 3 → together b r ≡ together b s → r ≡ s
+cancel b r s b8 r8 s8 r3 s3 same =
+    let counts = ap (λ (t : Totals). t.count) same in
+    let count : r.count ≡ s.count = omega arith in
+    let masses = ap (λ (t : Totals). t.mass) same in
+    let mass : r.mass ≡ s.mass = omega arith in
+    let sums : (k : ℕ) → k < 3 → get_or (together b r).weighted k 0 ≡ get_or (together b s).weighted k 0 = λ k less. ap (λ (t : Totals). get_or t.weighted k 0) same in
+    let w0 : get_or r.weighted 0 0 ≡ get_or s.weighted 0 0 = (let h = sums 0 (omega arith) in omega arith) in
+    let w1 : get_or r.weighted 1 0 ≡ get_or s.weighted 1 0 = (let h = sums 1 (omega arith) in omega arith) in
+    let w2 : get_or r.weighted 2 0 ≡ get_or s.weighted 2 0 = (let h = sums 2 (omega arith) in omega arith) in
+    let weighted : r.weighted ≡ s.weighted = three_numbers r.weighted r3 ∙ (λ i. w0 i ∷ w1 i ∷ w2 i ∷ []) ∙ sym (three_numbers s.weighted s3) in
+    let attr = sums_cancel b.attr r.attr s.attr (b8 ∙ sym r8) (b8 ∙ sym s8) (ap (λ (t : Totals). t.attr) same) in
+    λ i. record { count = count i; mass = mass i; weighted = weighted i; attr = attr i }
+
+-- the first n of the sums
+abbrev pub first_sums : List Totals → ℕ → List Totals
+first_sums ms n = map (λ k. all_together (take k ms)) (range_with_len 0 n)
+
+pub sums_length : (ms : List Totals) → length (prefix_sums ms) ≡ length ms + 1
+sums_length ms = length-map-range_with_len (λ k. all_together (take k ms)) 0 (length ms + 1)
+
+pub at_sum : (ms sums : List Totals) (k : ℕ) (d : Totals) → sums ≡ prefix_sums ms → k < length sums → get_or sums k d ≡ all_together (take k ms)
+at_sum ms sums k d is within =
+    let long = ap length is ∙ sums_length ms in
+    ap (λ (l : List Totals). get_or l k d) is ∙ get_or-map-range_with_len (λ k. all_together (take k ms)) 0 (length ms + 1) k k d (omega arith) (omega arith)
+
+-- the sum of a range together with that before it is that through its end
+pub sum_makes : (ms sums : List Totals) (i n : ℕ) (through before : Totals) → sums ≡ prefix_sums ms → i + n < length sums → through ≡ get_or sums (i + n) through → before ≡ get_or sums i before →
+    through ≡ together before (all_together (take n (drop i ms)))
+sum_makes ms sums i n through before is within at_end at_start =
+    let before_is = at_start ∙ at_sum ms sums i before is (omega arith) in
+    at_end ∙ at_sum ms sums (i + n) through is within ∙ ap all_together (take-add i n ms) ∙ all-append (take i ms) (take n (drop i ms))
+    ∙ ap (λ (t : Totals). together t (all_together (take n (drop i ms)))) (sym before_is)
+
+-- the numbers that each of them has
+pub eight_of_part : (ms : List Totals) (i n : ℕ) → All IsTotals ms → length (all_together (take n (drop i ms))).attr ≡ 8
+eight_of_part ms i n limits = eight_of_all (take n (drop i ms)) (All-take IsTotals n (drop i ms) (All-drop IsTotals i ms limits))
+
+pub eight_before : (ms sums : List Totals) (i : ℕ) (before : Totals) → All IsTotals ms → sums ≡ prefix_sums ms → i < length sums → before ≡ get_or sums i before → length before.attr ≡ 8
+eight_before ms sums i before limits is within at =
+    ap (λ (t : Totals). length t.attr) (at ∙ at_sum ms sums i before is within) ∙ eight_of_all (take i ms) (All-take IsTotals i ms limits)
+
+-- one moment more
+
+pub sum_more : (ms : List Totals) (i : ℕ) (m so_far : Totals) → i < length ms → m ≡ get_or ms i m → so_far ≡ all_together (take i ms) → together so_far m ≡ all_together (take (i + 1) ms)
+sum_more ms i m so_far within at is =
+    ap (λ (t : Totals). together t m) is ∙ sym (all-push (take i ms) m) ∙ ap (λ (n : Totals). all_together (take i ms ++ n ∷ [])) at ∙ ap all_together (sym (take_more ms i m within))
+
+pub first_sums-more : (ms : List Totals) (n : ℕ) (sums : List Totals) (m : Totals) → sums ≡ first_sums ms n → m ≡ all_together (take n ms) → sums ++ m ∷ [] ≡ first_sums ms (n + 1)
+first_sums-more ms n sums m are is =
+    ap (λ (l : List Totals). l ++ m ∷ []) are ∙ ap (λ (t : Totals). first_sums ms n ++ t ∷ []) is ∙ sym (map-range_with_len_more (λ k. all_together (take k ms)) 0 n n (omega arith))
+
+pub totals_more : (ms : List Totals) (i : ℕ) (m : Totals) → i < length ms → m ≡ get_or ms i m → All IsTotals (take i ms) → IsTotals m → All IsTotals (take (i + 1) ms)
+totals_more ms i m within at limits here =
+    All-same IsTotals (take (i + 1) ms) (take i ms ++ m ∷ []) (take_more ms i m within ∙ ap (λ (n : Totals). take i ms ++ n ∷ []) (sym at)) (All-push IsTotals (take i ms) m limits here)
+
+pub particles_more : (ms : List Totals) (i : ℕ) (m so_far : Totals) → i < length ms → m ≡ get_or ms i m → so_far ≡ all_together (take i ms) → particle_count ms ≤ 65536 → so_far.count + m.count ≤ 65536
+particles_more ms i m so_far within at is few =
+    let front = ap (λ (t : Totals). t.count) is ∙ counted (take i ms) in
+    let here = ap (λ (t : Totals). t.count) at in
+    let part = sum_by_more_le (λ (t : Totals). t.count) ms i m within in
+    omega arith
+
+-- the moments of particles, one by one
+
+abbrev one : Particle → Totals
+one j = moment_of (j ∷ [])
+
+all_of_particles : (js : List Particle) → moment_of js ≡ all_together (map one js)
+all_of_particles [] = refl
+all_of_particles (j ∷ js) = moments_join (j ∷ []) js ∙ ap (together (one j)) (all_of_particles js)
+
+count_of_particles : (js : List Particle) → particle_count (map one js) ≡ length js
+count_of_particles js = sym (counted (map one js)) ∙ ap (λ (t : Totals). t.count) (sym (all_of_particles js)) ∙ count_is js
+
+same_sums : (js : List Particle) → prefix_moments js ≡ prefix_sums (map one js)
+same_sums js =
+    let each : (k : ℕ) → moment_of (take k js) ≡ all_together (take k (map one js)) = λ k. all_of_particles (take k js) ∙ ap all_together (sym (take-map one k js)) in
+    (λ i. map (λ k. each k i) (range_with_len 0 (length js + 1))) ∙ ap (λ (n : ℕ). map (λ k. all_together (take k (map one js))) (range_with_len 0 (n + 1))) (sym (length-map js one))
+
+-- so the moments of the first of them are sums
+pub IsPrefix-of_particles : (js : List Particle) (sums : List Totals) → length js ≤ 65536 → All HasLimitedMoment js → sums ≡ prefix_moments js → IsPrefix sums
+IsPrefix-of_particles js sums few limits are =
+    let count = count_of_particles js in
+    let long = length-map js one in (
+      map one js,
+      record { few = omega arith; few_particles = omega arith; limits = All-map IsTotals one js limits; summed = are ∙ same_sums js },
+    )
