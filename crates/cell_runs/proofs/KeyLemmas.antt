@@ -1,8 +1,10 @@
 -- Keys in ascending order, and the cells that they lie in.
-use Rattle.std.proofs.Common.{◌≡◌, ℕ, zero, suc, ◌+◌, ◌-◌, ◌*◌, ◌/◌, ◌^◌, ◌<◌, ◌≤◌, Bool, true, false, List, length, get_or, nat_eq, inl, inr, refl, sym, ◌∙◌, ap, arith}
+use Rattle.std.proofs.Common.{◌≡◌, ℕ, zero, suc, ◌+◌, ◌-◌, ◌*◌, ◌/◌, ◌^◌, ◌<◌, ◌≤◌, ◌↔◌, Bool, true, false, List, length, get_or, nat_eq, inl, inr, refl, sym, ◌∙◌, ap, arith}
 use Rattle.std.specs.List.Sorted.{IsNonDecreasing, IsPartitionedBy, IsPartitionPoint}
-use Rattle.std.proofs.Math.Nat.{div-mul-le_self, pow-suc, mul-pos}
-use Rattle.std.proofs.lemmas.Nat.{pow-add, pow_pos, le-div, div_below}
+use Rattle.std.proofs.Math.Nat.{div-mul-le_self, pow-suc, mul-pos, mul-one, div-eq_of_lt, lt-mul-div-succ, pow-le-pow_right}
+use Rattle.std.proofs.lemmas.Nat.{pow-add, pow_pos, le-div, div_below, xor_lt, xor_shr, leading_length}
+use Rattle.std.specs.Int.Bits.{bit_xor, xor_self, xor_assoc, xor_zero_r}
+use Rattle.std.specs.Int.Count.{count_leading_zeros}
 use Rattle.std.proofs.lemmas.Bool.{cases_lt, eqb-true, eq-eqb, both_ways}
 use Rattle.std.proofs.lemmas.List.{get_or_default}
 use Rattle.pf_geom.specs.Bounds.{Bounds}
@@ -91,3 +93,59 @@ none_passes_at_zero t box c some none passes =
     let nothing : gap * 0 ≡ 0 = omega arith in
     let right : gap * square t.a ≡ 0 = ap (λ (a : ℕ). gap * (a * a)) none ∙ nothing in
     omega (arith, passes)
+
+-- numbers of which no bit differs are equal
+same_from_xor : (a b : ℕ) → bit_xor a b ≡ 0 → a ≡ b
+same_from_xor a b none =
+    sym (xor_zero_r a) ∙ ap (bit_xor a) (sym (xor_self b)) ∙ sym (xor_assoc a b b) ∙ ap (λ n. bit_xor n b) none
+
+-- numbers are equal past their last bits, so many of them, exactly where no other bits differ
+equal_past : (a b k : ℕ) → (bit_xor a b < 2 ^ k) ↔ (a / 2 ^ k ≡ b / 2 ^ k)
+equal_past a b k = (
+  λ few. same_from_xor (a / 2 ^ k) (b / 2 ^ k) (sym (xor_shr a b k) ∙ div-eq_of_lt few),
+  λ same.
+      let none : bit_xor a b / 2 ^ k ≡ 0 = xor_shr a b k ∙ ap (λ n. bit_xor n (b / 2 ^ k)) same ∙ xor_self (b / 2 ^ k) in
+      let whole : 2 ^ k * (bit_xor a b / 2 ^ k + 1) ≡ 2 ^ k = ap (λ q. 2 ^ k * (q + 1)) none ∙ mul-one (2 ^ k) in
+      omega (arith, lt-mul-div-succ (bit_xor a b) (pow_pos k), whole),
+)
+
+-- a number has at most so many bits exactly where its length is no more
+fits_by_length : (n m k : ℕ) → n < 2 ^ m → 2 ^ m ≤ 2 * n + 1 → (n < 2 ^ k) ↔ (m ≤ k)
+fits_by_length n m k below above =
+    let two : 1 ≤ 2 = omega arith in (
+      λ fits. elim (cases_lt k m) [
+        | inl less ↦ absurd (let more = pow-le-pow_right two less in omega (arith, more, pow-suc 2 k))
+        | inr most ↦ most
+      ],
+      λ most. (let more = pow-le-pow_right two most in omega (arith, more)),
+    )
+
+-- how many bits there are from the highest on in which two keys differ
+differing_bits : (one other : ℕ) → one < 2 ^ 90 → other < 2 ^ 90 → (m : ℕ) × (count_leading_zeros 128 (bit_xor one other) + m ≡ 128) × (bit_xor one other < 2 ^ m) × (2 ^ m ≤ 2 * bit_xor one other + 1)
+differing_bits one other one_fits other_fits =
+    let fits = xor_lt 90 one other one_fits other_fits in
+    leading_length 128 (bit_xor one other) (omega arith)
+
+pub leading_bits : (one other : ℕ) → one < 2 ^ 90 → other < 2 ^ 90 → 38 ≤ count_leading_zeros 128 (bit_xor one other)
+leading_bits one other one_fits other_fits =
+    let top = differing_bits one other one_fits other_fits in
+    let short = (fits_by_length (bit_xor one other) top.0 90 top.2 top.3).0 (xor_lt 90 one other one_fits other_fits) in
+    omega (arith, top.1)
+
+-- how many levels two keys have in common, from how many of their leading bits are equal
+pub levels_in_common : (one other level : ℕ) → one < 2 ^ 90 → other < 2 ^ 90 → level ≤ 30 → (level < (count_leading_zeros 128 (bit_xor one other) - 38) / 3 + 1) ↔ (cell_of_key one level ≡ cell_of_key other level)
+levels_in_common one other level one_fits other_fits within =
+    let apart = bit_xor one other in
+    let top = differing_bits one other one_fits other_fits in
+    let m = top.0 in
+    let places = 3 * (30 - level) in
+    let short = leading_bits one other one_fits other_fits in
+    let narrow = fits_by_length apart m places top.2 top.3 in
+    let equal = equal_past one other places in
+    let width = eight_pow (30 - level) in (
+      λ less. same_cell one other level (ap (λ w. one / w) (sym width) ∙ equal.0 (narrow.1 (omega (arith, top.1, less))) ∙ ap (λ w. other / w) width),
+      λ same.
+          let keys = ap (λ w. one / w) width ∙ ap (λ (c : Octant). c.key) same ∙ ap (λ w. other / w) (sym width) in
+          let few = narrow.0 (equal.1 keys) in
+          omega (arith, top.1),
+    )

@@ -1,16 +1,15 @@
-ghost use Rattle.std.specs.Prelude.{◌≡◌, ◌+◌, ◌-◌, ◌*◌, ◌/◌, ◌^◌, ◌<◌, ◌≤◌, ◌↔◌, IsTrue, All, List, IfSome, OnOk};
+ghost use Rattle.std.specs.Prelude.{◌≡◌, ℕ, ◌+◌, ◌-◌, ◌*◌, ◌/◌, ◌^◌, ◌<◌, ◌≤◌, ◌↔◌, All, List, IfSome, OnOk};
 ghost use Rattle.std.specs.Prelude.{length, map};
 ghost use Rattle.std.specs.List.Sorted.{IsNonDecreasing};
 ghost use Rattle.pf_geom.specs.Position.{Position};
 ghost use Rattle.pf_geom.specs.Key.{morton_key};
-ghost use Rattle.pf_model.specs.Criterion.{Passes};
 ghost use Rattle.pf_model.specs.Interaction.{level_of};
 ghost use Rattle.cell_runs.specs.CellRuns.{IsCellRun, AreCellRuns};
 ghost use Rattle.cell_runs.specs.Finding.{cell_of_key, IsBetweenCells, key_before, IsShared, NoSharedPasses};
 ghost use Rattle.cell_runs.specs.Finding.{IsCellFront, IsFront};
 
 use crate::cell_run::CellRun;
-use opening_test::passes;
+use opening_test::LeastGaps;
 use pf_geom::{Box3, Cell, DEEPEST, positions_share_lower_cells};
 use pf_model::{MOST_PARTICLES, Steps, Theta, levels_are_least};
 use pf_num::OutOfMemory;
@@ -34,10 +33,11 @@ pub fn find_runs<L: Ledger>(
     ensures tests { OnOk result (steps.new ≤ steps.old + (DEEPEST + 1) * length runs.new.items) }
     ensures none { t.a ≡ 0 → steps.new ≡ steps.old }
 {
+    let gaps = LeastGaps::of(t);
     runs.clear();
     let mut place = 0;
     while place < keys.len() {
-        let run = run_from(keys, place, b, t, steps);
+        let run = run_from(keys, place, b, &gaps, steps);
         runs.push(run)?;
         place += run.len as usize;
     }
@@ -49,24 +49,24 @@ fn run_from<L: Ledger>(
     keys: &[u128],
     place: usize,
     b: Box3,
-    t: Theta,
+    gaps: &LeastGaps,
     steps: &mut Steps<L>,
 ) -> CellRun
     requires within { place < length keys.now }
     requires few { length keys.now ≤ MOST_PARTICLES }
     requires keys { All (λ key. key < 2 ^ 90) keys.now }
     requires ascending { IsNonDecreasing keys.now }
-    ensures run { (ps : List Position) → keys.now ≡ map morton_key ps → IsBetweenCells t b ps place
-        → IsCellRun t b ps result }
+    ensures run { (ps : List Position) → keys.now ≡ map morton_key ps → IsBetweenCells gaps.now b ps place
+        → IsCellRun gaps.now b ps result }
     ensures first { result.first ≡ place }
     ensures some { 1 ≤ result.len }
     ensures inside { place + result.len ≤ length keys.now }
     ensures cost { steps.new ≤ steps.old + (DEEPEST + 1) }
-    ensures none { t.a ≡ 0 → steps.new ≡ steps.old }
+    ensures none { gaps.now.a ≡ 0 → steps.new ≡ steps.old }
 {
     levels_are_least();
     positions_share_lower_cells();
-    let level = first_level(keys[place], key_before(keys, place), b, t, steps);
+    let level = first_level(keys[place], key_before(keys, place), b, gaps, steps);
     let len = front(&keys[place..], level);
     CellRun {
         first: place as u32,
@@ -77,8 +77,10 @@ fn run_from<L: Ledger>(
 
 // The key at the place before, if there is one.
 fn key_before(keys: &[u128], place: usize) -> Option<u128>
-    requires { place ≤ length keys.now }
-    ensures { result ≡ key_before keys.now place }
+    requires place { place ≤ length keys.now }
+    requires keys { All (λ key. key < 2 ^ 90) keys.now }
+    ensures value { result ≡ key_before keys.now place }
+    ensures fits { IfSome result (λ key. key < 2 ^ 90) }
 {
     if place == 0 {
         None
@@ -88,60 +90,57 @@ fn key_before(keys: &[u128], place: usize) -> Option<u128>
 }
 
 // The least level at which the cell of a key passes, if there is one, where no cell that it shares with the key
-// before does.
+// before does: those aren't tested again.
 fn first_level<L: Ledger>(
     key: u128,
     before: Option<u128>,
     b: Box3,
-    t: Theta,
+    gaps: &LeastGaps,
     steps: &mut Steps<L>,
 ) -> Option<u32>
-    requires { key < 2 ^ 90 }
-    ensures value { (p : Position) → morton_key p ≡ key → NoSharedPasses t b before key → result ≡ level_of t b p }
+    requires key { key < 2 ^ 90 }
+    requires before { IfSome before (λ key. key < 2 ^ 90) }
+    ensures value { (p : Position) → morton_key p ≡ key → NoSharedPasses gaps.now b before key
+        → result ≡ level_of gaps.now b p }
     ensures fits { IfSome result (λ level. level ≤ DEEPEST) }
     ensures cost { steps.new ≤ steps.old + (DEEPEST + 1) }
-    ensures none { t.a ≡ 0 → steps.new ≡ steps.old }
+    ensures none { gaps.now.a ≡ 0 → steps.new ≡ steps.old }
 {
     levels_are_least();
-    if t.a == 0 {
+    if gaps.theta().a == 0 {
         return None;
     }
-    for level in 0..DEEPEST + 1 {
-        if passes_anew(key, before, level, b, t, steps) {
+    for level in shared_levels(before, key)..DEEPEST + 1 {
+        if gaps.passes(b, cell_of_key(key, level), steps) {
             return Some(level);
         }
     }
     None
 }
 
-// Whether the cell of a key at a level passes, where no shared cell does: a shared one isn't tested again.
-fn passes_anew<L: Ledger>(
-    key: u128,
-    before: Option<u128>,
-    level: u32,
-    b: Box3,
-    t: Theta,
-    steps: &mut Steps<L>,
-) -> bool
+// At how many levels the cell of a key is that of the key before. They are the first ones.
+fn shared_levels(before: Option<u128>, key: u128) -> u32
     requires key { key < 2 ^ 90 }
-    requires level { level ≤ DEEPEST }
-    ensures answer { NoSharedPasses t b before key → IsTrue result ↔ Passes b (cell_of_key key level) t }
-    ensures cost { steps.new ≤ steps.old + 1 }
-{
-    if is_shared(before, key, level) {
-        return false;
-    }
-    passes(b, cell_of_key(key, level), t, steps)
-}
-
-fn is_shared(before: Option<u128>, key: u128, level: u32) -> bool
-    requires { level ≤ DEEPEST }
-    ensures { IsTrue result ↔ IsShared before key level }
+    requires before { IfSome before (λ key. key < 2 ^ 90) }
+    ensures most { result ≤ DEEPEST + 1 }
+    ensures shared { (level : ℕ) → level ≤ DEEPEST → (level < result) ↔ IsShared before key level }
 {
     match before {
-        Some(before) => key_at(before, level) == key_at(key, level),
-        None => false,
+        Some(before) => common_levels(before, key),
+        None => 0,
     }
+}
+
+// At how many levels two keys have one cell: their leading bits, three for each level past the first, are equal.
+fn common_levels(one: u128, other: u128) -> u32
+    requires one { one < 2 ^ 90 }
+    requires other { other < 2 ^ 90 }
+    ensures most { result ≤ DEEPEST + 1 }
+    ensures common { (level : ℕ) → level ≤ DEEPEST
+        → (level < result) ↔ (cell_of_key one level ≡ cell_of_key other level) }
+{
+    let beyond = u128::BITS - 3 * DEEPEST;
+    ((one ^ other).leading_zeros() - beyond) / 3 + 1
 }
 
 fn cell_of_key(key: u128, level: u32) -> Cell

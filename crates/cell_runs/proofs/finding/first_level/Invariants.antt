@@ -5,5 +5,5 @@ use Rattle.cell_runs.proofs.finding.first_level.Given as goal
 
 abbrev pub invariant-loop-level : goal.invariant-loop-level
 invariant-loop-level g l =
-    (NoSharedPasses l.t l.b l.before l.key → (lower : ℕ) → lower < l.level → Passes l.b (cell_of_key l.key lower) l.t → ⊥)
+    (NoSharedPasses l.gaps l.b l.fn.before l.key → (lower : ℕ) → lower < l.level → Passes l.b (cell_of_key l.key lower) l.gaps → ⊥)
     × (l.steps ≤ l.fn.steps + l.level)
