@@ -3,7 +3,9 @@
 #![tactic(auto)]
 
 mod arriving;
+mod laws;
 mod leaving;
 mod phases;
 
+pub use laws::ranks_by_number_have_together;
 pub use phases::exchanged;

@@ -5,6 +5,7 @@ ghost use Rattle.multisection.specs.Regions.{regions_of};
 ghost use Rattle.exchange_phase.specs.Ranks.{HaveTogether, with_owners};
 
 use crate::arriving::settle_all;
+use crate::laws::ranks_by_number_have_together;
 use crate::leaving::leave_all;
 use all_to_all::{open, tokens_for};
 use exchange::{Parcel, RankState, each_rank_has_its_own};
@@ -12,7 +13,7 @@ use multisection::{Domains, ranks};
 use pf_io::Gate;
 use pf_model::{
     Body, Grid, cuts_ignore_order, distinct_ids_ignore_order, domains_ignore_order,
-    orders_by_id_are_one, owners_are_ranks, some_have_distinct_ids,
+    orders_by_id_are_one, ranks_by_id_have_all, some_have_distinct_ids,
 };
 use pf_num::OutOfMemory;
 use std::alloc::Global;
@@ -45,7 +46,8 @@ pub fn exchanged<R: Threads + Wait + Sync, G: Gate>(
     distinct_ids_ignore_order();
     domains_ignore_order();
     orders_by_id_are_one();
-    owners_are_ranks();
+    ranks_by_id_have_all();
+    ranks_by_number_have_together();
     some_have_distinct_ids();
     let _nx = grid.nx;
     let (inboxes, posts) = open::<Parcel>(alloc, ranks(domains))?;

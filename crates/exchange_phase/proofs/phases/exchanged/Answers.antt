@@ -2,6 +2,8 @@ use Rattle.std.proofs.Common.{◌≡◌, List, [], ◌++◌, length, map, take, 
 use Rattle.std.specs.List.{All, range_with_len, flat_map, zip}
 use Rattle.std.proofs.lemmas.Result.{IfOk-weaker}
 use Rattle.pf_model.specs.Division.{IsDivision}
+use Rattle.pf_model.specs.Domains.{particles_of}
+use Rattle.pf_model.specs.Particles.{by_id}
 use Rattle.multisection.specs.Regions.{Regions}
 use Rattle.let_inbox.specs.declared.inbox.Inbox.{Inbox}
 use Rattle.exchange.specs.States.{Package}
@@ -12,7 +14,6 @@ use Rattle.exchange_phase.specs.Packages.{src_of, dst_of, ArePosts}
 use Rattle.exchange_phase.specs.Arriving.{due_of, CanSettle, AreSettledFrom}
 use Rattle.exchange_phase.specs.Ranks.{HaveTogether, with_owners}
 use Rattle.exchange_phase.proofs.Home.{Laws, own_by, each_sent_to_all, arrives}
-use Rattle.exchange_phase.proofs.Together.{owners_together}
 use Rattle.exchange_phase.proofs.phases.exchanged.Goals as goal
 
 pub leave_all-requires-clause-ranks : goal.leave_all-requires-clause-ranks
@@ -97,6 +98,8 @@ returns-clause-owners g c =
 pub returns-clause-together : goal.returns-clause-together
 returns-clause-together g c =
     let division = subst IsDivision c.grid.view_is c.grid.invariant in
-    let together = owners_together c.owners_are_ranks.ensures c.args.grid c.args.now.now division c.requires.ascending in
+    let js = c.args.now.now in
+    let together =
+    c.ranks_by_number_have_together.ensures c.args.grid js (λ rank. by_id (particles_of c.args.grid js rank)) (c.ranks_by_id_have_all.ensures c.args.grid js division c.requires.bodies.distinct) in
     IfOk-weaker c.settle_all.result (λ after. after.items ≡ with_owners c.args.grid c.args.now.now) (λ after. HaveTogether c.args.grid c.args.now.now after.items)
     (λ after is. subst (HaveTogether c.args.grid c.args.now.now) (sym is) together) (returns-clause-owners g c)
