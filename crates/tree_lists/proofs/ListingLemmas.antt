@@ -1,13 +1,12 @@
 -- Entries of pieces that are in order are a list.
-use Rattle.std.proofs.Common.{◌≡◌, ℕ, suc, ◌+◌, ◌<◌, ◌≤◌, Bool, true, false, List, [], ◌∷◌, ◌++◌, length, get_or, map, nat_eq, ◌⊎◌, inl, inr, Option, Some, None, refl, sym, ◌∙◌, ap, subst, arith}
-use Rattle.std.specs.Prelude.{⊤}
-use Rattle.std.specs.List.{filter, All, Contains}
+use Rattle.std.proofs.Common.{◌≡◌, ℕ, suc, ◌+◌, ◌<◌, ◌≤◌, Bool, true, false, List, [], ◌∷◌, ◌++◌, length, get_or, map, nat_eq, ◌⊎◌, inl, inr, refl, sym, ◌∙◌, ap, subst, arith}
+use Rattle.std.specs.List.{All, Contains}
 use Rattle.std.specs.List.Sorted.{IsPermutation, IsSortedBy}
 use Rattle.std.specs.Cmp.{nat_cmp_is}
 use Rattle.std.specs.Ordering.{nat_cmp, ordering_then, is_lt}
 use Rattle.std.specs.declared.cmp.Ordering.{Ordering}
 use Rattle.std.specs.declared.cmp.Ordering.TheVariants.{Less, Equal}
-use Rattle.std.proofs.lemmas.Bool.{cases_lt, cases_order, both_ways, lt-ltb, eq-eqb, or_left, or_right, and_from}
+use Rattle.std.proofs.lemmas.Bool.{cases_lt, cases_order, both_ways}
 use Rattle.std.proofs.lemmas.Bool.Decides.{Decides-eqb, nat_tests}
 use Rattle.std.proofs.lemmas.Cmp.{nat_cmp_total, on_total, then_total}
 use Rattle.std.proofs.lemmas.List.{length-map, get_or-map, get_or_default, length_push, get_or_push}
@@ -17,22 +16,19 @@ use Rattle.std.proofs.lemmas.List.Sorted.{sorted_far, length_permutation, All-pe
 use Rattle.std.proofs.lemmas.Map.Keys.{IsDistinct-IsPermutation}
 use Rattle.std.proofs.lemmas.Map.Made.{AllPairs-from_IsDistinct, IsDistinct-from_AllPairs}
 use Rattle.pf_geom.specs.Bounds.{Bounds}
-use Rattle.pf_geom.specs.Octant.{Octant, cell_at}
 use Rattle.pf_model.specs.declared.entry.Entry.{Entry}
-use Rattle.pf_model.specs.declared.entry.Entry.TheVariants.{Cell, One}
+use Rattle.pf_model.specs.declared.entry.Entry.TheVariants.{One}
 use Rattle.pf_model.specs.Particle.{Particle}
 use Rattle.pf_model.specs.Particles.{HaveDistinctIds}
 use Rattle.pf_model.specs.Criterion.{Criterion}
-use Rattle.pf_model.specs.Sums.{moment_of}
-use Rattle.pf_model.specs.Interaction.{level_of, leads_to_cell, members_of, entry_at, entry_of, comes_before, list_of}
-use Rattle.pf_model.specs.ParticleLaws.{ParticlesOfOneIdAreOne}
-use Rattle.pf_model.specs.ListLaws.{LevelsAreLeast, ListsHoldTheirEntries}
+use Rattle.pf_model.specs.Interaction.{entry_place, members_of, entry_of, comes_before, list_of}
+use Rattle.pf_model.specs.ListLaws.{ListsHoldTheirEntries, HasLevel, EntriesHaveLevels, EntriesStandByPlace, EntriesAtOnePlaceAreOne}
 use Rattle.morton_tree.specs.declared.span.Span.{Span}
 use Rattle.morton_tree.specs.Spans.{at_span}
 use Rattle.cell_runs.specs.declared.cell_run.CellRun.{CellRun}
 use Rattle.tree_lists.specs.declared.piece.Piece.{Piece}
 use Rattle.tree_lists.specs.Members.{AreSpansOf}
-use Rattle.tree_lists.specs.Pieces.{entry_place, piece_of, ArePiecesOf, IsPieceOf, ArePieces, IsInPlaceOrder, AreEntriesOf}
+use Rattle.tree_lists.specs.Pieces.{piece_of, ArePiecesOf, IsPieceOf, ArePieces, IsInPlaceOrder, AreEntriesOf}
 use Rattle.tree_lists.proofs.SpanLemmas.{read_span, place_of_id}
 use Rattle.tree_lists.proofs.EntryLemmas.{first_leads}
 
@@ -112,61 +108,22 @@ pieces_in_order t box js qs ps same h =
           (get_or-map first ps i d 0 (omega arith) ∙ e ∙ sym (get_or-map first ps j d 0 within));
     }
 
--- cells have a level up to 30, so their places are before all of particles
-abbrev IsShallow : Entry → Type 0
-IsShallow (Cell c m) = c.level ≤ 30
-IsShallow (One p) = ⊤
+-- the laws of the places of entries
+pub record PlaceLaws : Type 0 where
+  pub one : EntriesAtOnePlaceAreOne
+  pub levels : EntriesHaveLevels
+  pub order : EntriesStandByPlace
 
-abbrev IsLow : Option ℕ → Type 0
-IsLow None = ⊤
-IsLow (Some level) = level ≤ 30
-
-low_level : LevelsAreLeast → (t : Criterion) (box : Bounds) (p : Particle) (o : Option ℕ) → level_of t box p.at ≡ o → IsLow o
-low_level laws t box p None e = tt
-low_level laws t box p (Some level) e = (((laws t box p.at).1 level).0 e).within
-
-shallow_entry : (t : Criterion) (box : Bounds) (js : List Particle) (p : Particle) (o : Option ℕ) → IsLow o → IsShallow (entry_at t box js p o)
-shallow_entry t box js p None low = tt
-shallow_entry t box js p (Some level) low = low
-
--- entries of particles that stand at one place are one
-one_at_place : ParticlesOfOneIdAreOne → (t : Criterion) (box : Bounds) (js : List Particle) → HaveDistinctIds js → (p q : Particle) (o r : Option ℕ) → Contains js p → Contains js q → IsLow o → IsLow r → entry_place (entry_at t box js p o) ≡ entry_place (entry_at t box js q r) → entry_at t box js q r ≡ entry_at t box js p o
-one_at_place ids t box js distinct p q None None h k low high e = ap One (sym (ids js p q distinct h k (ap (λ (v : ℕ × ℕ). v.1) e)))
-one_at_place ids t box js distinct p q None (Some n) h k low high e = absurd (let same : 31 ≡ n = ap (λ (v : ℕ × ℕ). v.0) e in omega arith)
-one_at_place ids t box js distinct p q (Some m) None h k low high e = absurd (let same : m ≡ 31 = ap (λ (v : ℕ × ℕ). v.0) e in omega arith)
-one_at_place ids t box js distinct p q (Some m) (Some n) h k low high e =
-    let level : n ≡ m = sym (ap (λ (v : ℕ × ℕ). v.0) e) in
-    let key : (cell_at q.at n).key ≡ (cell_at p.at m).key = sym (ap (λ (v : ℕ × ℕ). v.1) e) in
-    let cell : cell_at q.at n ≡ cell_at p.at m = λ i. record { level = level i; key = key i } in
-    ap (λ (c : Octant). Cell c (moment_of (filter (leads_to_cell t box c) js))) cell
-
--- of two entries at different places the one whose place is less comes first
-before_by_place : (e f : Entry) → IsShallow f → ((entry_place e).0 < (entry_place f).0) ⊎ (((entry_place e).0 ≡ (entry_place f).0) × ((entry_place e).1 ≤ (entry_place f).1)) → (entry_place e ≡ entry_place f → ⊥) → comes_before e f ≡ true
-before_by_place (Cell c m) (Cell d n) shallow rise differ =
-    elim rise [
-      | inl less ↦ or_left _ _ (lt-ltb c.level d.level less)
-      | inr both ↦ elim (cases_lt c.key d.key) [
-        | inl less ↦ or_right _ _ (and_from _ _ (eq-eqb c.level d.level both.0) (lt-ltb c.key d.key less))
-        | inr more ↦
-            let most : c.key ≤ d.key = both.1 in
-            let key : c.key ≡ d.key = omega arith in
-            absurd (differ (λ i. (both.0 i, key i)))
+-- of two entries at different places the one whose place is no higher comes first
+before_by_place : PlaceLaws → (e f : Entry) → HasLevel e → HasLevel f → ((entry_place e).0 < (entry_place f).0) ⊎ (((entry_place e).0 ≡ (entry_place f).0) × ((entry_place e).1 ≤ (entry_place f).1)) → (entry_place e ≡ entry_place f → ⊥) → comes_before e f ≡ true
+before_by_place laws e f low high rise differ =
+    (laws.order e f low high).1 (elim rise [
+      | inl less ↦ inl less
+      | inr both ↦ elim (cases_lt (entry_place e).1 (entry_place f).1) [
+        | inl less ↦ inr (both.0, less)
+        | inr more ↦ (let most = both.1 in let same : (entry_place e).1 ≡ (entry_place f).1 = omega arith in absurd (differ (λ i. (both.0 i, same i))))
       ]
-    ]
-before_by_place (Cell c m) (One q) shallow rise differ = refl
-before_by_place (One p) (Cell d n) shallow rise differ =
-    elim rise [ inl less ↦ absurd (omega arith) | inr both ↦ absurd (let same : 31 ≡ d.level = both.0 in omega arith) ]
-before_by_place (One p) (One q) shallow rise differ =
-    elim rise [
-      | inl less ↦ absurd (omega arith)
-      | inr both ↦ elim (cases_lt p.id q.id) [
-        | inl less ↦ lt-ltb p.id q.id less
-        | inr more ↦
-            let most : p.id ≤ q.id = both.1 in
-            let id : p.id ≡ q.id = omega arith in
-            absurd (differ (λ i. (both.0 i, id i)))
-      ]
-    ]
+    ])
 
 -- the first particle of a piece
 abbrev first_of : List Particle → Piece → Particle
@@ -180,17 +137,15 @@ first_contained t box js e q h =
     (q.span.first, within, get_or_default js q.span.first (first_of js q) nobody within)
 
 -- pieces that begin at different places are of entries at different places
-places_differ : ParticlesOfOneIdAreOne → LevelsAreLeast → (t : Criterion) (box : Bounds) (js : List Particle) → HaveDistinctIds js → (e f : Entry) (q r : Piece) → IsPieceOf t box js e q → IsPieceOf t box js f r → (q.span.first ≡ r.span.first → ⊥) → entry_place e ≡ entry_place f → ⊥
-places_differ ids laws t box js distinct e f q r h k apart same =
+places_differ : EntriesAtOnePlaceAreOne → (t : Criterion) (box : Bounds) (js : List Particle) → HaveDistinctIds js → (e f : Entry) (q r : Piece) → IsPieceOf t box js e q → IsPieceOf t box js f r → (q.span.first ≡ r.span.first → ⊥) → entry_place e ≡ entry_place f → ⊥
+places_differ law t box js distinct e f q r h k apart same =
     let x = first_of js q in
     let y = first_of js r in
     let of_x = first_leads t box js e q nobody h in
     let of_y = first_leads t box js f r nobody k in
-    let low_x = low_level laws t box x (level_of t box x.at) refl in
-    let low_y = low_level laws t box y (level_of t box y.at) refl in
     let places : entry_place (entry_of t box js x) ≡ entry_place (entry_of t box js y) = ap entry_place of_x ∙ same ∙ ap entry_place (sym of_y) in
-    let one : entry_of t box js y ≡ entry_of t box js x = one_at_place ids t box js distinct x y (level_of t box x.at) (level_of t box y.at) (first_contained t box js e q h) (first_contained t box js f r k) low_x low_y places in
-    let entry : f ≡ e = sym of_y ∙ one ∙ of_x in
+    let one : entry_of t box js x ≡ entry_of t box js y = law t box js x y distinct (first_contained t box js e q h) (first_contained t box js f r k) places in
+    let entry : f ≡ e = sym of_y ∙ sym one ∙ of_x in
     let members : at_span q.span js ≡ at_span r.span js = h.members ∙ ap (members_of t box js) (sym entry) ∙ sym k.members in
     let some_q = h.some in
     let some_r = k.some in
@@ -202,8 +157,8 @@ places_differ ids laws t box js distinct e f q r h k apart same =
     apart (omega arith)
 
 -- the entries of pieces in order are the list
-pub list_from_pieces : ParticlesOfOneIdAreOne → LevelsAreLeast → ListsHoldTheirEntries → (t : Criterion) (box : Bounds) (js : List Particle) (qs : List Piece) (es : List Entry) → HaveDistinctIds js → ArePieces t box js qs → IsInPlaceOrder qs → AreEntriesOf t box js es qs → es ≡ list_of t box js
-list_from_pieces ids laws lists t box js qs es distinct pieces order entries =
+pub list_from_pieces : PlaceLaws → ListsHoldTheirEntries → (t : Criterion) (box : Bounds) (js : List Particle) (qs : List Piece) (es : List Entry) → HaveDistinctIds js → ArePieces t box js qs → IsInPlaceOrder qs → AreEntriesOf t box js es qs → es ≡ list_of t box js
+list_from_pieces laws lists t box js qs es distinct pieces order entries =
     let counted = entries.counted in
     (lists t box js es distinct).0 (record {
       ordered = λ i j d less within.
@@ -214,11 +169,11 @@ list_from_pieces ids laws lists t box js qs es distinct pieces order entries =
           let in_j : j < length qs = omega arith in
           let h = entries.each i d no_piece (omega arith) in
           let k = entries.each j d no_piece in_j in
-          let y = first_of js r in
-          let shallow : IsShallow f = subst IsShallow (first_leads t box js f r nobody k) (shallow_entry t box js y (level_of t box y.at) (low_level laws t box y (level_of t box y.at) refl)) in
+          let low : HasLevel e = subst HasLevel (first_leads t box js e q nobody h) (laws.levels t box js (first_of js q)) in
+          let high : HasLevel f = subst HasLevel (first_leads t box js f r nobody k) (laws.levels t box js (first_of js r)) in
           let Rise : ℕ × ℕ → ℕ × ℕ → Type 0 = λ v w. (v.0 < w.0) ⊎ ((v.0 ≡ w.0) × (v.1 ≤ w.1)) in
           let rise : Rise (entry_place e) (entry_place f) = subst (Rise (entry_place e)) k.place (let P : ℕ × ℕ → Type 0 = λ v. Rise v r.place in subst P h.place (order i j no_piece less in_j)) in
-          before_by_place e f shallow rise (places_differ ids laws t box js distinct e f q r h k (pieces.apart i j no_piece less in_j));
+          before_by_place laws e f low high rise (places_differ laws.one t box js distinct e f q r h k (pieces.apart i j no_piece less in_j));
       complete = λ j there.
           let found = pieces.complete j there in
           let q = found.0 in

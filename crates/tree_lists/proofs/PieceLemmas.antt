@@ -13,7 +13,7 @@ use Rattle.pf_model.specs.Particle.{Particle}
 use Rattle.pf_model.specs.Particles.{HaveDistinctIds}
 use Rattle.pf_model.specs.Criterion.{Criterion}
 use Rattle.pf_model.specs.Sums.{moment_of}
-use Rattle.pf_model.specs.Interaction.{level_of, is_cell, leads_to_cell, leads_to, members_of, entry_at, entry_of}
+use Rattle.pf_model.specs.Interaction.{entry_place, level_of, is_cell, leads_to_cell, leads_to, members_of, entry_at, entry_of}
 use Rattle.pf_model.specs.ListLaws.{LevelsAreLeast, FirstCellsHoldTheirMembers}
 use Rattle.morton_tree.specs.declared.span.Span.{Span}
 use Rattle.morton_tree.specs.Spans.{at_span}
@@ -21,7 +21,7 @@ use Rattle.cell_runs.specs.declared.cell_run.CellRun.{CellRun}
 use Rattle.cell_runs.specs.CellRuns.{IsPlaceOf, IsWholeCell, IsCellRun, AreCellRuns}
 use Rattle.cell_runs.specs.RunLaws.{RunsHoldEachPlace, RunsRise}
 use Rattle.tree_lists.specs.declared.piece.Piece.{Piece}
-use Rattle.tree_lists.specs.Pieces.{entry_place, place_by_level, piece_of, IsRunAmong, ArePiecesOf, IsPieceOf, ArePieces}
+use Rattle.tree_lists.specs.Pieces.{place_by_level, piece_of, IsRunAmong, ArePiecesOf, IsPieceOf, ArePieces}
 use Rattle.tree_lists.proofs.SpanLemmas.{PassAt, filter_is_span, length-span, read_span, in_span, place_of_id}
 
 abbrev origin : Position

@@ -5,18 +5,12 @@ use Rattle.pf_geom.specs.declared.cell.TheConstants.{DEEPEST}
 use Rattle.pf_geom.specs.Bounds.{Bounds}
 use Rattle.pf_geom.specs.Octant.{cell_at}
 use Rattle.pf_model.specs.declared.entry.Entry.{Entry}
-use Rattle.pf_model.specs.declared.entry.Entry.TheVariants.{Cell, One}
 use Rattle.pf_model.specs.Particle.{Particle}
 use Rattle.pf_model.specs.Criterion.{Criterion}
-use Rattle.pf_model.specs.Interaction.{entry_of, members_of}
+use Rattle.pf_model.specs.Interaction.{entry_place, entry_of, members_of}
 use Rattle.morton_tree.specs.Spans.{at_span}
 use Rattle.cell_runs.specs.declared.cell_run.CellRun.{CellRun}
 use Rattle.tree_lists.specs.declared.piece.Piece.{Piece}
-
--- where an entry stands in lists: cells by level and key, and after them, past the deepest level, particles by id
-abbrev pub entry_place : Entry → ℕ × ℕ
-entry_place (Cell c m) = (c.level, c.key)
-entry_place (One p) = (DEEPEST + 1, p.id)
 
 -- where the entry of a particle stands, of which a cell first passes at this level, if there is one
 abbrev pub place_by_level : Option ℕ → Particle → ℕ × ℕ

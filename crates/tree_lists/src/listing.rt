@@ -14,7 +14,8 @@ use cell_runs::CellRun;
 use morton_tree::{Span, Tree};
 use pf_geom::{Box3, DEEPEST, cell_of};
 use pf_model::{
-    Entry, Steps, Theta, levels_are_least, lists_hold_their_entries, particles_of_one_id_are_one,
+    Entry, Steps, Theta, entries_at_one_place_are_one, entries_have_levels, entries_stand_by_place,
+    levels_are_least, lists_hold_their_entries,
 };
 use pf_num::OutOfMemory;
 use std::alloc::Global;
@@ -40,9 +41,10 @@ pub fn list_over<L: Ledger>(
     ensures none { t.a ≡ 0 → steps.new ≡ steps.old }
     ensures tree { IsOctree tree.now }
 {
-    levels_are_least();
+    entries_at_one_place_are_one();
+    entries_have_levels();
+    entries_stand_by_place();
     lists_hold_their_entries();
-    particles_of_one_id_are_one();
     let mut pieces = pieces_of(alloc, tree, keys, b, t, runs, steps)?;
     put_in_order(&mut pieces);
     let entries = entries_of(alloc, tree, &pieces)?;

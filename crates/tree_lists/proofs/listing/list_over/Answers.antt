@@ -32,7 +32,11 @@ entries g c =
 
 pub returns-clause-entries : goal.returns-clause-entries
 returns-clause-entries g c =
-    list_from_pieces c.particles_of_one_id_are_one.ensures c.levels_are_least.ensures c.lists_hold_their_entries.ensures c.args.t c.args.b c.args.tree.now.built c.put_in_order.new.pieces.items c.in_ok-entries.entries.items
+    list_from_pieces (record {
+      one = c.entries_at_one_place_are_one.ensures;
+      levels = c.entries_have_levels.ensures;
+      order = c.entries_stand_by_place.ensures;
+    }) c.lists_hold_their_entries.ensures c.args.t c.args.b c.args.tree.now.built c.put_in_order.new.pieces.items c.in_ok-entries.entries.items
     c.pieces_of.ensures.tree.are_bodies.distinct (ordered g c) c.put_in_order.ensures.ordered (entries g c)
 
 pub returns-clause-spans : goal.returns-clause-spans
