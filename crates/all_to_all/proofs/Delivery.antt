@@ -13,7 +13,8 @@ use Rattle.let_inbox.specs.Tokens.{carried, spent_source, IsSpentOf}
 use Rattle.all_to_all.specs.declared.outgoing.Token.{Token}
 use Rattle.all_to_all.specs.Outgoing.{AtRank, IsTokenFrom}
 use Rattle.all_to_all.specs.Handed.{EachHasTokens, all_carried, tokens_at}
-use Rattle.all_to_all.proofs.OtherRanks.{others_next, others_within}
+use Rattle.std.proofs.lemmas.List.Elements.{Contains-get_or}
+use Rattle.let_inbox.specs.Laws.{OthersAreTheSources, OthersStandInTurn, OthersGrow}
 use Rattle.all_to_all.proofs.Picking.{picked, picked_keys}
 
 module _ {M : Type 0} where
@@ -81,14 +82,14 @@ module _ {M : Type 0} where
     source_once rank false = refl
 
     -- where q put one parcel for each other rank, those for a rank name q once
-    names_for : (rank ranks : ℕ) (tokens : List (Token M)) → rank < ranks → All (IsTokenFrom source target inboxes q) tokens → map (λ (t : Token M). t.target) tokens ≡ others q ranks
+    names_for : OthersStandInTurn → (rank ranks : ℕ) (tokens : List (Token M)) → rank < ranks → All (IsTokenFrom source target inboxes q) tokens → map (λ (t : Token M). t.target) tokens ≡ others q ranks
         → map spent_source (tokens_for_rank rank tokens) ≡ cond (q == rank) [] (q ∷ [])
-    names_for rank ranks tokens within all to =
+    names_for turn rank ranks tokens within all to =
         let key : Token M → ℕ = λ t. t.target in
         let ts : List (Token M) = filter (λ t. t.target == rank) tokens in
         let from = All-filter (λ (t : Token M). t.target == rank) (IsTokenFrom source target inboxes q) tokens all in
         map_twice ts ∙ from_q ts from
-        ∙ ap (map (λ (k : ℕ). q)) (picked_keys key rank tokens ∙ ap (filter (λ y. y == rank)) to ∙ picked q rank ranks within)
+        ∙ ap (map (λ (k : ℕ). q)) (picked_keys key rank tokens ∙ ap (filter (λ y. y == rank)) to ∙ picked turn q rank ranks within)
         ∙ source_once rank (q == rank)
 
     kept_at : (rank : ℕ) (b : Bool) (t : Token M) → flat_map carried (map (λ (t : Token M). t.spent) (cond b (t ∷ []) [])) ≡ cond b (carried t.spent) []
@@ -124,11 +125,11 @@ module _ {M : Type 0} where
         map-append target (carried t.spent) (flat_map (λ (t : Token M). carried t.spent) ts) ∙ (λ i. here i ++ rest i)
 
     -- each rank has the tokens of one more source
-    pub each_has : (first lists : List (List (Spent M))) (tokens : List (Token M)) → length lists ≡ length first
+    pub each_has : OthersStandInTurn → OthersGrow → (first lists : List (List (Spent M))) (tokens : List (Token M)) → length lists ≡ length first
         → ((rank : ℕ) → tokens_at lists rank ≡ tokens_at first rank ++ tokens_for_rank rank tokens)
         → EachHasTokens source inboxes q first → All (IsTokenFrom source target inboxes q) tokens → map (λ (t : Token M). t.target) tokens ≡ others q (length inboxes)
         → EachHasTokens source inboxes (q + 1) lists
-    each_has first lists tokens long delivered before all to = record {
+    each_has turn grow first lists tokens long delivered before all to = record {
       all = long ∙ before.all;
       each = λ rank within.
           let was = before.each rank within in
@@ -136,8 +137,8 @@ module _ {M : Type 0} where
             of_inbox = λ i there. All-same (IsSpentOf source i) _ _ (delivered rank) (All-append (IsSpentOf source i) _ _ (was.of_inbox i there) (of_rank rank tokens all i there));
             sources = ap (map spent_source) (delivered rank)
                 ∙ map-append spent_source (tokens_at first rank) (tokens_for_rank rank tokens)
-                ∙ (λ i. was.sources i ++ names_for rank (length inboxes) tokens within all to i)
-                ∙ sym (others_next rank q);
+                ∙ (λ i. was.sources i ++ names_for turn rank (length inboxes) tokens within all to i)
+                ∙ sym (grow rank q);
           };
     }
 
@@ -154,12 +155,12 @@ module _ {M : Type 0} where
         → map (λ (t : Token M). t.target) tokens ≡ others q ranks
     targets_are ranks tokens all sent = sym (targets_carried tokens all) ∙ sent
 
-    pub target_within : (ranks : ℕ) (tokens : List (Token M)) → All (IsTokenFrom source target inboxes q) tokens → map target (flat_map (λ (t : Token M). carried t.spent) tokens) ≡ others q ranks
+    pub target_within : OthersAreTheSources → (ranks : ℕ) (tokens : List (Token M)) → All (IsTokenFrom source target inboxes q) tokens → map target (flat_map (λ (t : Token M). carried t.spent) tokens) ≡ others q ranks
         → (k : ℕ) (t : Token M) → k < length tokens → t ≡ get_or tokens k t → t.target < ranks
-    target_within ranks tokens all sent k t within is =
+    target_within sources ranks tokens all sent k t within is =
         let key : Token M → ℕ = λ t. t.target in
         let to = targets_are ranks tokens all sent in
-        let below : All (λ s. s < ranks) (map key tokens) = All-same (λ s. s < ranks) (map key tokens) (others q ranks) to (others_within q ranks) in
+        let below : All (λ s. s < ranks) (map key tokens) = All-same (λ s. s < ranks) (map key tokens) (others q ranks) to (λ k d inside. (((sources q ranks).1 (get_or (others q ranks) k d)).0 (Contains-get_or (others q ranks) k d inside)).0) in
         let long = length-map tokens key in
         let there = below k 0 (omega arith) in
         let at = get_or-map key tokens k t 0 within in

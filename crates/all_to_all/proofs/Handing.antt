@@ -13,13 +13,14 @@ use Rattle.all_to_all.specs.declared.post.Post.{Post}
 use Rattle.all_to_all.specs.Outgoing.{AtRank, unsent_of, IsPutterFrom}
 use Rattle.all_to_all.specs.Posts.{state_of, PostState, FitsInboxes}
 use Rattle.all_to_all.specs.Opening.{state_from}
-use Rattle.all_to_all.proofs.OtherRanks.{left_here, left_past, few_others}
+use Rattle.let_inbox.specs.Laws.{OthersStandInTurn, OthersAreFew}
+use Rattle.all_to_all.proofs.OtherRanks.{left_here, left_past}
 use Rattle.all_to_all.proofs.Sending.{next_target}
 
 module _ {M : Type 0} where
   -- a rank gets no putter for its own inbox
-  own_passed : (ranks first rank : ℕ) → first < ranks → first ≡ rank → state_from {M = M} ranks (first + 1) rank ≡ state_from ranks first rank
-  own_passed ranks first rank within own = ap (λ (ts : List ℕ). let s : PostState M = record { rank = rank; unsent = ts; sent = []; received = []; settled = [] } in s) (sym (left_past rank first ranks within own))
+  own_passed : OthersStandInTurn → (ranks first rank : ℕ) → first < ranks → first ≡ rank → state_from {M = M} ranks (first + 1) rank ≡ state_from ranks first rank
+  own_passed turn ranks first rank within own = ap (λ (ts : List ℕ). let s : PostState M = record { rank = rank; unsent = ts; sent = []; received = []; settled = [] } in s) (sym (left_past turn rank first ranks within own))
 
   -- a post with one more putter
   abbrev pub with_unsent : Post M → Vec (ToSend M) Global → Post M
@@ -36,7 +37,7 @@ module _ {M : Type 0} where
       pub putters_are : AtRank inboxes first (λ i. All (IsPutterOf i) putters)
       pub sources : map source_of putters ≡ others_from first index (length inboxes - index)
 
-    module _ (first index : ℕ) (inboxes : List (Inbox M)) (posts : List (Post M)) (putters : List (Putter M)) (was : HandsOut first index inboxes posts putters)
+    module _ (turn : OthersStandInTurn) (few : OthersAreFew) (first index : ℕ) (inboxes : List (Inbox M)) (posts : List (Post M)) (putters : List (Putter M)) (was : HandsOut first index inboxes posts putters)
         (within : index < length posts) (below : first < length inboxes) (item : Post M) where
       rank_there : (get_or posts index item).rank ≡ index
       rank_there = let count = was.count in ap (λ (s : PostState M). s.rank) (was.not_yet index item (omega arith) (omega arith))
@@ -44,7 +45,7 @@ module _ {M : Type 0} where
       pub some_left : ((get_or posts index item).rank ≡ first → ⊥) → 0 < length putters
       some_left apart =
           let count = was.count in
-          let here = was.sources ∙ left_here first index (length inboxes) (omega arith) (λ is. apart (rank_there ∙ is)) in
+          let here = was.sources ∙ left_here turn first index (length inboxes) (omega arith) (λ is. apart (rank_there ∙ is)) in
           let long = length-map putters source_of in
           let e = ap length here in omega arith
 
@@ -57,11 +58,11 @@ module _ {M : Type 0} where
             fit = was.fit;
             room = was.room;
             handed = λ rank d earlier in_ranks. dite (ℕ_discrete rank index)
-                (λ here. was.not_yet rank d (omega arith) in_ranks ∙ own_passed (length inboxes) first rank below (sym (here ∙ is)))
+                (λ here. was.not_yet rank d (omega arith) in_ranks ∙ own_passed turn (length inboxes) first rank below (sym (here ∙ is)))
                 (λ apart. was.handed rank d (omega arith) in_ranks);
             not_yet = λ rank d later in_ranks. was.not_yet rank d (omega arith) in_ranks;
             putters_are = was.putters_are;
-            sources = was.sources ∙ left_past first index (length inboxes) (omega arith) is;
+            sources = was.sources ∙ left_past turn first index (length inboxes) (omega arith) is;
           }
 
       pub handed_on : (p : Putter M) (rest : List (Putter M)) (unsent : Vec (ToSend M) Global) → ((get_or posts index item).rank ≡ first → ⊥) → putters ≡ p ∷ rest
@@ -77,13 +78,13 @@ module _ {M : Type 0} where
           let fits = All-get_or (FitsInboxes source target has_terms n inboxes) posts index item within was.fit in
           let room = All-get_or (λ p. (p.outgoing.tokens.items ≡ []) × (n ≤ vec_capacity p.outgoing.tokens)) posts index item within was.room in
           let state = was.not_yet index item (omega arith) inside in
-          let here = left_here first index n inside (λ same. apart (rank_there ∙ same)) in
+          let here = left_here turn first index n inside (λ same. apart (rank_there ∙ same)) in
           let names : source_of p ∷ map source_of rest ≡ index ∷ others_from first (index + 1) (n - (index + 1)) = ap (map source_of) (sym is) ∙ was.sources ∙ here in
           let from : source_of p ≡ index = cc in
           let left : unsent_of now.outgoing ≡ others_from index first (n - first) =
           next_target unsent.items there.outgoing.unsent.items to_send more
           ∙ ap (λ ts. first ∷ ts) (ap (λ (s : PostState M). s.unsent) state)
-          ∙ sym (left_here index first n below (λ same. apart (rank_there ∙ sym same))) in
+          ∙ sym (left_here turn index first n below (λ same. apart (rank_there ∙ sym same))) in
           let after : state_of now ≡ state_from n first index = λ k. record {
             rank = (state k).rank;
             unsent = left k;
@@ -91,11 +92,11 @@ module _ {M : Type 0} where
             received = (state k).received;
             settled = (state k).settled;
           } in
-          let few : length unsent.items ≤ n =
+          let short : length unsent.items ≤ n =
           let a = ap length left in
           let b = length-reverse (map (λ (s : ToSend M). s.target) unsent.items) in
           let d = length-map unsent.items (λ (s : ToSend M). s.target) in
-          let e = few_others index first (n - first) in omega arith in
+          let e = few index first (n - first) in omega arith in
           let putters_were : AtRank inboxes first (λ i. All (IsPutterOf i) (p ∷ rest)) = subst (λ ps. AtRank inboxes first (λ i. All (IsPutterOf i) ps)) is was.putters_are in
           record {
             count = length-set posts index now ∙ was.count;

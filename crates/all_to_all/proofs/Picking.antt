@@ -4,7 +4,7 @@ use mathlib.Core.Logic.{dite}
 use native.Mathlib.Decide.{ℕ_discrete}
 use Rattle.std.specs.List.{range_with_len}
 use Rattle.let_inbox.specs.Sources.{others_from, others}
-use Rattle.all_to_all.proofs.OtherRanks.{others_here, others_past}
+use Rattle.let_inbox.specs.Laws.{OthersStandInTurn}
 
 keeps : (rank x : ℕ) (xs : List ℕ) → x ≡ rank → filter (λ y. y == rank) (x ∷ xs) ≡ x ∷ filter (λ y. y == rank) xs
 keeps rank x xs is = ap (λ (b : Bool). cond {A = List ℕ} b (x ∷ filter (λ y. y == rank) xs) (filter (λ y. y == rank) xs)) (eq-eqb x rank is)
@@ -12,32 +12,32 @@ keeps rank x xs is = ap (λ (b : Bool). cond {A = List ℕ} b (x ∷ filter (λ 
 drops : (rank x : ℕ) (xs : List ℕ) → x ≢ rank → filter (λ y. y == rank) (x ∷ xs) ≡ filter (λ y. y == rank) xs
 drops rank x xs apart = ap (λ (b : Bool). cond {A = List ℕ} b (x ∷ filter (λ y. y == rank) xs) (filter (λ y. y == rank) xs)) (ne_eqb x rank apart)
 
-none_past : (q rank first n : ℕ) → rank < first → filter (λ y. y == rank) (others_from q first n) ≡ []
-none_past q rank first zero past = refl
-none_past q rank first (suc n) past =
-    let rest = none_past q rank (first + 1) n (omega arith) in
+none_past : OthersStandInTurn → (q rank first n : ℕ) → rank < first → filter (λ y. y == rank) (others_from q first n) ≡ []
+none_past turn q rank first zero past = refl
+none_past turn q rank first (suc n) past =
+    let rest = none_past turn q rank (first + 1) n (omega arith) in
     dite (ℕ_discrete first q)
-    (λ is. ap (filter (λ y. y == rank)) (others_past q first n is) ∙ rest)
-    (λ apart. ap (filter (λ y. y == rank)) (others_here q first n apart) ∙ drops rank first (others_from q (first + 1) n) (λ same. omega arith) ∙ rest)
+    (λ is. ap (filter (λ y. y == rank)) ((turn q first n).1 is) ∙ rest)
+    (λ apart. ap (filter (λ y. y == rank)) ((turn q first n).0 apart) ∙ drops rank first (others_from q (first + 1) n) (λ same. omega arith) ∙ rest)
 
 -- a rank stands once among the ranks other than q, unless it is q
-picked_from : (q rank first n : ℕ) → first ≤ rank → rank < first + n → filter (λ y. y == rank) (others_from q first n) ≡ cond (q == rank) [] (rank ∷ [])
-picked_from q rank first zero a b = absurd (omega arith)
-picked_from q rank first (suc n) a b =
+picked_from : OthersStandInTurn → (q rank first n : ℕ) → first ≤ rank → rank < first + n → filter (λ y. y == rank) (others_from q first n) ≡ cond (q == rank) [] (rank ∷ [])
+picked_from turn q rank first zero a b = absurd (omega arith)
+picked_from turn q rank first (suc n) a b =
     let one : Bool → List ℕ = λ t. cond t [] (rank ∷ []) in
     let rest : List ℕ = others_from q (first + 1) n in
     dite (ℕ_discrete first rank)
-    (λ here. let none = none_past q rank (first + 1) n (omega arith) in
+    (λ here. let none = none_past turn q rank (first + 1) n (omega arith) in
     dite (ℕ_discrete first q)
-    (λ is. ap (filter (λ y. y == rank)) (others_past q first n is) ∙ none ∙ sym (ap one (eq-eqb q rank (sym is ∙ here))))
-    (λ apart. ap (filter (λ y. y == rank)) (others_here q first n apart) ∙ keeps rank first rest here ∙ (λ i. here i ∷ none i) ∙ sym (ap one (ne_eqb q rank (λ e. apart (here ∙ sym e))))))
-    (λ later. let more = picked_from q rank (first + 1) n (omega arith) (omega arith) in
+    (λ is. ap (filter (λ y. y == rank)) ((turn q first n).1 is) ∙ none ∙ sym (ap one (eq-eqb q rank (sym is ∙ here))))
+    (λ apart. ap (filter (λ y. y == rank)) ((turn q first n).0 apart) ∙ keeps rank first rest here ∙ (λ i. here i ∷ none i) ∙ sym (ap one (ne_eqb q rank (λ e. apart (here ∙ sym e))))))
+    (λ later. let more = picked_from turn q rank (first + 1) n (omega arith) (omega arith) in
     dite (ℕ_discrete first q)
-    (λ is. ap (filter (λ y. y == rank)) (others_past q first n is) ∙ more)
-    (λ apart. ap (filter (λ y. y == rank)) (others_here q first n apart) ∙ drops rank first rest later ∙ more))
+    (λ is. ap (filter (λ y. y == rank)) ((turn q first n).1 is) ∙ more)
+    (λ apart. ap (filter (λ y. y == rank)) ((turn q first n).0 apart) ∙ drops rank first rest later ∙ more))
 
-pub picked : (q rank ranks : ℕ) → rank < ranks → filter (λ y. y == rank) (others q ranks) ≡ cond (q == rank) [] (rank ∷ [])
-picked q rank ranks within = picked_from q rank 0 ranks (omega arith) (omega arith)
+pub picked : OthersStandInTurn → (q rank ranks : ℕ) → rank < ranks → filter (λ y. y == rank) (others q ranks) ≡ cond (q == rank) [] (rank ∷ [])
+picked turn q rank ranks within = picked_from turn q rank 0 ranks (omega arith) (omega arith)
 
 cond_map : {A B : Type 0} (f : A → B) (b : Bool) (x : A) (xs : List A) → map f (cond b (x ∷ xs) xs) ≡ cond b (f x ∷ map f xs) (map f xs)
 cond_map f true x xs = refl
@@ -66,8 +66,8 @@ module _ {M : Type 0} (target : M → ℕ) (parcel : ℕ → ℕ → M) (names :
   from_each rank [] = refl
   from_each rank (q ∷ qs) = one_more q rank (q == rank) (flat_map (λ q. map (parcel q) (cond (q == rank) [] (rank ∷ []))) qs) (filter (λ q. not (q == rank)) qs) (from_each rank qs)
 
-  pub one_from_each : (ranks rank : ℕ) → rank < ranks
+  pub one_from_each : OthersStandInTurn → (ranks rank : ℕ) → rank < ranks
       → flat_map (λ q. filter (λ m. target m == rank) (map (parcel q) (others q ranks))) (range_with_len 0 ranks) ≡ map (λ q. parcel q rank) (others rank ranks)
-  one_from_each ranks rank within =
-      (λ i. flat_map (λ q. (picked_parcels q rank (others q ranks) ∙ ap (map (parcel q)) (picked q rank ranks within)) i) (range_with_len 0 ranks))
+  one_from_each turn ranks rank within =
+      (λ i. flat_map (λ q. (picked_parcels q rank (others q ranks) ∙ ap (map (parcel q)) (picked turn q rank ranks within)) i) (range_with_len 0 ranks))
       ∙ from_each rank (range_with_len 0 ranks)

@@ -3,7 +3,7 @@ ghost use Rattle.let_inbox.specs.Tokens.{carried, settled_by, IsSettled};
 ghost use Rattle.all_to_all.specs.Arrivals.{Extends, NothingLay, AreTokensOf};
 ghost use Rattle.all_to_all.specs.Incoming.{IsIncomingOf};
 
-use let_inbox::{Inbox, Named, Spent, Taker};
+use let_inbox::{Inbox, Named, Spent, Taker, others_are_the_sources};
 use std::sync::Wait;
 
 // What a rank holds of its own inbox: the taker, and the parcels that it took.
@@ -39,6 +39,7 @@ impl<M: Named + Drop> Incoming<M> {
         ensures more { Extends self.old.parcels.items self.new.parcels.items }
         ensures all { IsPermutation (flat_map carried tokens.items) self.new.parcels.items }
     {
+        others_are_the_sources();
         inbox.settle(&mut self.taker, tokens);
         self.take_all(rt, inbox);
     }

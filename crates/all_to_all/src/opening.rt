@@ -6,7 +6,7 @@ ghost use Rattle.all_to_all.specs.Opening.{IsOpenTo, IsHandedOut, IsColumnOf};
 use crate::incoming::Incoming;
 use crate::outgoing::{Outgoing, ToSend};
 use crate::post::Post;
-use let_inbox::{Inbox, Named, Putter};
+use let_inbox::{Inbox, Named, Putter, others_are_few, others_stand_in_turn};
 use pf_num::OutOfMemory;
 use std::alloc::Global;
 
@@ -91,6 +91,8 @@ impl<M: Named + Drop> Opening<M> {
         ensures inboxes { self.new.inboxes ≡ self.old.inboxes }
         ensures rest { self.new.columns ≡ self.old.columns }
     {
+        others_stand_in_turn();
+        others_are_few();
         let Column { target, putters } = column;
         let mut putters = putters.into_iter();
         for post in self.posts.iter_mut() {

@@ -5,7 +5,7 @@ ghost use Rattle.all_to_all.specs.Handed.{EachHasTokens, HasSentToAll, all_carri
 
 use crate::outgoing::Token;
 use crate::post::Post;
-use let_inbox::{Inbox, Named, Spent};
+use let_inbox::{Inbox, Named, Spent, others_are_the_sources, others_grow, others_stand_in_turn};
 use pf_num::OutOfMemory;
 use std::alloc::Global;
 use std::mem;
@@ -66,6 +66,9 @@ impl<M: Named + Drop> Post<M> {
             ≡ map (with_sent M.target self.old (map (λ l. l.items) lists.old))
             (range_with_len 0 (length inboxes.now))) }
     {
+        others_are_the_sources();
+        others_stand_in_turn();
+        others_grow();
         let tokens = mem::replace(&mut self.outgoing.tokens, Vec::new(alloc));
         for Token { target, spent } in tokens {
             lists[target as usize].push(spent)?;

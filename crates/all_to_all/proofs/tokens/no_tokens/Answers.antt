@@ -1,4 +1,4 @@
-use Rattle.std.proofs.Common.{◌≡◌, List, [], length, map, Vec, Global, arith}
+use Rattle.std.proofs.Common.{◌≡◌, List, [], map, Vec, Global, arith}
 use Rattle.std.proofs.lemmas.List.{length-map}
 use Rattle.std.proofs.lemmas.List.Elements.{All-map}
 use Rattle.let_inbox.specs.declared.tokens.Spent.{Spent}

@@ -21,7 +21,7 @@ bounds-lists-target g c =
     let is : taken.items ≡ c.args.self.now.outgoing.tokens.items = λ k. (c.replace-tokens.ensures.value k).items in
     let long = ap length is in
     let at : t ≡ get_or c.args.self.now.outgoing.tokens.items (length c.loop-target.yielded) t = turn.1 ∙ ap (λ ts. get_or ts (length c.loop-target.yielded) t) is in
-    let within = target_within g.M.Named.source g.M.Named.target inboxes rank (length inboxes) c.args.self.now.outgoing.tokens.items c.requires.of_inboxes.outgoing.tokens c.requires.sent.sent_to
+    let within = target_within g.M.Named.source g.M.Named.target inboxes rank c.others_are_the_sources.ensures (length inboxes) c.args.self.now.outgoing.tokens.items c.requires.of_inboxes.outgoing.tokens c.requires.sent.sent_to
     (length c.loop-target.yielded) t (let early = turn.0 in omega arith) at in
     let count = c.loop-target.invariant.count in
     let all = c.requires.tokens.all in
@@ -41,7 +41,7 @@ loop-target-preserved g c =
     let turn = YieldsList-turn (YieldsList-from_vec taken.items start.0 (start.1 ∙ taken.ok.0)) c.loop-target.yielded c.loop-target.target-iterator c.loop-target.yielded_by c.next.result c.next.new.self t c.in-Some.is c.next.ensures.steps in
     let is : taken.items ≡ c.args.self.now.outgoing.tokens.items = λ k. (c.replace-tokens.ensures.value k).items in
     let many = ap length is in
-    let below = target_within g.M.Named.source g.M.Named.target inboxes c.args.self.now.rank (length inboxes) c.args.self.now.outgoing.tokens.items c.requires.of_inboxes.outgoing.tokens c.requires.sent.sent_to
+    let below = target_within g.M.Named.source g.M.Named.target inboxes c.args.self.now.rank c.others_are_the_sources.ensures (length inboxes) c.args.self.now.outgoing.tokens.items c.requires.of_inboxes.outgoing.tokens c.requires.sent.sent_to
     (length c.loop-target.yielded) t (let early = turn.0 in omega arith) (turn.1 ∙ ap (λ ts. get_or ts (length c.loop-target.yielded) t) is) in
     let within : t.target < length lists =
     let count = inv.count in let all = c.requires.tokens.all in let same = length-map c.args.lists.now items in omega arith in
@@ -69,7 +69,7 @@ returns-clause-tokens g c =
     let start = c.into_iter-target-iterator.ensures.into_iter_gives in
     let end = YieldsList-end (YieldsList-from_vec taken.items start.0 (start.1 ∙ taken.ok.0)) c.loop-target.yielded c.loop-target.target-iterator c.loop-target.yielded_by c.next.result c.next.new.self c.in-None.is c.next.ensures.steps in
     let all : c.loop-target.yielded ≡ tokens = sym (map-id c.loop-target.yielded) ∙ end.0 ∙ (λ k. (c.replace-tokens.ensures.value k).items) in
-    each_has g.M.Named.source g.M.Named.target inboxes rank (map items c.args.lists.now) (map items lists) tokens
+    each_has g.M.Named.source g.M.Named.target inboxes rank c.others_stand_in_turn.ensures c.others_grow.ensures (map items c.args.lists.now) (map items lists) tokens
     (length-map lists items ∙ inv.count ∙ sym (length-map c.args.lists.now items))
     (λ r. inv.delivered r ∙ ap (λ ts. tokens_at (map items c.args.lists.now) r ++ tokens_for_rank r ts) all)
     c.requires.tokens fit (targets_are g.M.Named.source g.M.Named.target inboxes rank (length inboxes) tokens fit c.requires.sent.sent_to)
