@@ -10,7 +10,7 @@ use pf_model::{Entry, Steps, Theta};
 use pf_num::OutOfMemory;
 use std::alloc::Global;
 use std::sync::ledger::Ledger;
-use tree_lists::{keys_of, list_over};
+use tree_lists::list_over;
 
 // The list of a box over the bodies of a tree, and what is kept of it where it is sent to a rank.
 pub(crate) fn list_for<L: Ledger>(
@@ -29,9 +29,8 @@ pub(crate) fn list_for<L: Ledger>(
     ensures none { t.a ≡ 0 → steps.new ≡ steps.old }
     ensures tree { IsOctree tree.now }
 {
-    let keys = keys_of(alloc, tree.bodies())?;
     let mut runs = Vec::new(alloc);
-    let (items, spans) = list_over(alloc, tree, &keys, b, t, &mut runs, steps)?;
+    let (items, spans) = list_over(alloc, tree, b, t, &mut runs, steps)?;
     let cells = cells_among(alloc, &items)?;
     Ok((items, Sent { dst, cells, spans }))
 }

@@ -1,6 +1,5 @@
 ghost use Rattle.std.specs.Prelude.{◌≡◌, ◌+◌, ◌*◌, ◌<◌, ◌≤◌, IfOk, OnOk, All, Contains, IsPermutation, [], length, map};
 ghost use Rattle.std.specs.Prelude.{slice_get, Some, sum_by};
-ghost use Rattle.pf_geom.specs.Key.{morton_key};
 ghost use Rattle.pf_model.specs.Division.{rank_count};
 ghost use Rattle.pf_model.specs.Domains.{particles_of};
 ghost use Rattle.pf_model.specs.Interaction.{list_of};
@@ -23,7 +22,7 @@ use pf_num::OutOfMemory;
 use std::alloc::Global;
 use std::marker::Model;
 use std::sync::ledger::Ledger;
-use tree_lists::{keys_of, list_over};
+use tree_lists::list_over;
 
 /// The most entries that the lists of a rank's groups have together, and the most that are kept.
 pub const MOST_ENTRIES: u64 = 1 << 24;
@@ -84,8 +83,7 @@ impl<T: Terms> Gather<T> {
         lists_ignore_order();
         one_rank_has_its_own();
         let own = tree.bodies();
-        let keys = keys_of(alloc, own)?;
-        let (listed, count) = list_groups(alloc, tree, &keys, groups, t, steps)?;
+        let (listed, count) = list_groups(alloc, tree, groups, t, steps)?;
         let bodies = own.to_vec(alloc)?;
         Ok(Gather {
             rank,
@@ -169,17 +167,15 @@ impl<T: Terms> Gather<T> {
     }
 }
 
-// The lists of groups over the bodies of a tree, by the keys of the bodies, and how long they are together.
+// The lists of groups over the bodies of a tree, and how long they are together.
 fn list_groups<L: Ledger>(
     alloc: Global,
     tree: &Tree,
-    keys: &[u128],
     groups: &[Group],
     t: Theta,
     steps: &mut Steps<L>,
 ) -> Result<(Vec<Listed>, u64), OutOfMemory>
     requires unmoved { IsUnmoved tree.now }
-    requires keys { keys.now ≡ map (λ j. morton_key j.at) tree.now.built }
     requires few { length groups.now ≤ MOST_PARTICLES }
     ensures each { IfOk result (λ r. map (λ l. l.group) r.0.items ≡ groups.now) }
     ensures count { IfOk result (λ r. r.1
@@ -195,7 +191,7 @@ fn list_groups<L: Ledger>(
     let mut runs = Vec::new(alloc);
     let mut count = 0;
     for group in groups {
-        let (entries, _) = list_over(alloc, tree, keys, group.around, t, &mut runs, steps)?;
+        let (entries, _) = list_over(alloc, tree, group.around, t, &mut runs, steps)?;
         count += entries.len() as u64;
         listed.push(Listed {
             group: *group,

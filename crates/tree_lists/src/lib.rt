@@ -7,4 +7,3 @@ mod piece;
 mod pieces;
 
 pub use listing::list_over;
-pub use pieces::keys_of;

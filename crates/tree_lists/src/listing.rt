@@ -1,6 +1,5 @@
 ghost use Rattle.std.specs.Prelude.{◌≡◌, ◌+◌, ◌*◌, ◌≤◌, All, IfOk, IsPermutation, length, map};
 ghost use Rattle.pf_geom.specs.Bounds.{Bounds};
-ghost use Rattle.pf_geom.specs.Key.{morton_key};
 ghost use Rattle.pf_model.specs.declared.entry.Entry.{Entry};
 ghost use Rattle.pf_model.specs.Criterion.{Criterion};
 ghost use Rattle.pf_model.specs.Interaction.{list_of};
@@ -21,20 +20,17 @@ use pf_num::OutOfMemory;
 use std::alloc::Global;
 use std::sync::ledger::Ledger;
 
-/// The interaction list of a box over the bodies of a tree, which hasn't moved, by their Morton keys, and for each
-/// entry the span of its members. `runs` is room that many calls may share, whatever
-/// it held before.
+/// The interaction list of a box over the bodies of a tree, which hasn't moved, and for each entry the span of its
+/// members. `runs` is room that many calls may share, whatever it held before.
 pub fn list_over<L: Ledger>(
     alloc: Global,
     tree: &Tree,
-    keys: &[u128],
     b: Box3,
     t: Theta,
     runs: &mut Vec<CellRun>,
     steps: &mut Steps<L>,
 ) -> Result<(Vec<Entry>, Vec<Span>), OutOfMemory>
     requires unmoved { IsUnmoved tree.now }
-    requires keys { keys.now ≡ map (λ j. morton_key j.at) tree.now.built }
     ensures entries { IfOk result (λ r. r.0.items ≡ list_of t b tree.now.built) }
     ensures spans { IfOk result (λ r. AreSpansOf t b tree.now.built r.0.items r.1.items) }
     ensures tests { IfOk result (λ r. steps.new ≤ steps.old + (DEEPEST + 1) * length r.0.items) }
@@ -45,7 +41,7 @@ pub fn list_over<L: Ledger>(
     entries_have_levels();
     entries_stand_by_place();
     lists_hold_their_entries();
-    let mut pieces = pieces_of(alloc, tree, keys, b, t, runs, steps)?;
+    let mut pieces = pieces_of(alloc, tree, b, t, runs, steps)?;
     put_in_order(&mut pieces);
     let entries = entries_of(alloc, tree, &pieces)?;
     let spans = spans_of(alloc, &pieces)?;

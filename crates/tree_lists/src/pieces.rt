@@ -1,12 +1,11 @@
 ghost use Rattle.std.specs.Prelude.{◌≡◌, ◌+◌, ◌*◌, ◌≤◌, All, IfOk, IfSome, length, map};
-ghost use Rattle.pf_geom.specs.Key.{morton_key};
 ghost use Rattle.morton_tree.specs.Tree.{IsOctree, IsUnmoved};
 ghost use Rattle.tree_lists.specs.Pieces.{piece_of, IsRunAmong, ArePiecesOf, ArePieces};
 
 use crate::piece::Piece;
 use cell_runs::{CellRun, find_runs, runs_hold_each_place, runs_rise};
 use morton_tree::{Span, Tree};
-use pf_geom::{Box3, DEEPEST, cell_of, key_of, positions_have_cells};
+use pf_geom::{Box3, DEEPEST, cell_of, positions_have_cells};
 use pf_model::{Body, Steps, Theta, first_cells_hold_their_members, levels_are_least};
 use pf_num::OutOfMemory;
 use std::alloc::Global;
@@ -15,18 +14,16 @@ use std::sync::ledger::Ledger;
 // Particles come after cells of every level.
 const AFTER_CELLS: u32 = DEEPEST + 1;
 
-// The pieces of a box over the bodies of a tree, in key order, by the keys of the bodies.
+// The pieces of a box over the bodies of a tree, in key order.
 pub(crate) fn pieces_of<L: Ledger>(
     alloc: Global,
     tree: &Tree,
-    keys: &[u128],
     b: Box3,
     t: Theta,
     runs: &mut Vec<CellRun>,
     steps: &mut Steps<L>,
 ) -> Result<Vec<Piece>, OutOfMemory>
     requires unmoved { IsUnmoved tree.now }
-    requires keys { keys.now ≡ map (λ j. morton_key j.at) tree.now.built }
     ensures pieces { IfOk result (λ pieces. ArePieces t b tree.now.built pieces.items) }
     ensures tests { IfOk result (λ pieces. steps.new ≤ steps.old + (DEEPEST + 1) * length pieces.items) }
     ensures none { t.a ≡ 0 → steps.new ≡ steps.old }
@@ -38,15 +35,8 @@ pub(crate) fn pieces_of<L: Ledger>(
     runs_hold_each_place();
     runs_rise();
     let bodies = tree.bodies();
-    find_runs(keys, b, t, runs, steps)?;
+    find_runs(tree.keys(), b, t, runs, steps)?;
     pieces_for(alloc, bodies, runs)
-}
-
-/// The Morton keys of bodies.
-pub fn keys_of(alloc: Global, bodies: &[Body]) -> Result<Vec<u128>, OutOfMemory>
-    ensures { IfOk result (λ keys. keys.items ≡ map (λ j. morton_key j.at) bodies.now) }
-{
-    Ok(bodies.iter().map(|body| key_of(body.at)).collect(alloc)?)
 }
 
 // The pieces of cell runs over the positions of bodies.

@@ -13,17 +13,17 @@ use Rattle.tree_lists.proofs.pieces.pieces_of.Goals as goal
 
 pub find_runs-requires-clause-keys : goal.find_runs-requires-clause-keys
 find_runs-requires-clause-keys g c =
-    subst (All (λ (key : ℕ). key < 2 ^ 90)) (sym c.requires.keys) (keys_fit c.positions_have_cells.ensures c.args.tree.now.built)
+    subst (All (λ (key : ℕ). key < 2 ^ 90)) (sym c.keys.ensures.value) (keys_fit c.positions_have_cells.ensures c.args.tree.now.built)
 
 pub find_runs-requires-clause-ascending : goal.find_runs-requires-clause-ascending
 find_runs-requires-clause-ascending g c =
-    subst IsNonDecreasing (sym c.requires.keys) (keys_ascend c.args.tree.now.built c.bodies-bodies.ensures.tree.ordered)
+    subst IsNonDecreasing (sym c.keys.ensures.value) (keys_ascend c.args.tree.now.built c.bodies-bodies.ensures.tree.ordered)
 
 pub pieces_for-requires : goal.pieces_for-requires
 pieces_for-requires g c =
     let js = c.bodies-bodies.result.now in
     let same = c.bodies-bodies.ensures.value ∙ c.requires.unmoved in
-    let runs = c.in_ok-find_runs.ensures.runs (positions js) (c.requires.keys ∙ ap (map (λ (j : Particle). morton_key j.at)) (sym same) ∙ keys_of_positions js) in
+    let runs = c.in_ok-find_runs.ensures.runs (positions js) (c.keys.ensures.value ∙ ap (map (λ (j : Particle). morton_key j.at)) (sym same) ∙ keys_of_positions js) in
     subst (All (IsRunAmong (length js))) (sym c.deref.ensures.value) (runs_among c.levels_are_least.ensures c.args.t c.args.b js c.find_runs.new.runs.items runs)
 
 pub returns-clause-pieces : goal.returns-clause-pieces
@@ -31,7 +31,7 @@ returns-clause-pieces g c =
     let js = c.bodies-bodies.result.now in
     let same = c.bodies-bodies.ensures.value ∙ c.requires.unmoved in
     let rs = c.find_runs.new.runs.items in
-    let runs = c.in_ok-find_runs.ensures.runs (positions js) (c.requires.keys ∙ ap (map (λ (j : Particle). morton_key j.at)) (sym same) ∙ keys_of_positions js) in
+    let runs = c.in_ok-find_runs.ensures.runs (positions js) (c.keys.ensures.value ∙ ap (map (λ (j : Particle). morton_key j.at)) (sym same) ∙ keys_of_positions js) in
     let distinct = c.bodies-bodies.ensures.tree.are_bodies.distinct in
     IfOk-weaker c.pieces_for.result (λ qs. ArePiecesOf js c.deref.result.now qs.items) (λ qs. ArePieces c.args.t c.args.b c.args.tree.now.built qs.items) (λ qs pieces.
     subst (λ (ks : List Particle). ArePieces c.args.t c.args.b ks qs.items) same

@@ -1,15 +1,9 @@
-use Rattle.std.proofs.Common.{◌≡◌, List, map, ◌∙◌, ap, subst, arith}
-use Rattle.pf_geom.specs.Key.{morton_key}
-use Rattle.pf_model.specs.Particle.{Particle}
+use Rattle.std.proofs.Common.{◌≡◌, List, map, ◌∙◌, subst, arith}
 use Rattle.pf_model.specs.Criterion.{Criterion}
 use Rattle.group_lists.specs.Gathering.{gathering_of, own_gathering, source_count, IsGathered}
 use Rattle.group_lists.proofs.GatherLemmas.{gathered_from_listed}
 use Rattle.group_lists.proofs.AbsorbLemmas.{entries_of, opened_all}
 use Rattle.group_lists.proofs.gather.Gather.open.Goals as goal
-
-pub list_groups-requires-clause-keys : goal.list_groups-requires-clause-keys
-list_groups-requires-clause-keys g c =
-    c.deref.ensures.value ∙ c.in_ok-keys.ensures ∙ ap (map (λ (j : Particle). morton_key j.at)) (c.bodies-own.ensures.value ∙ c.requires.unmoved)
 
 pub invariant_of-result : goal.invariant_of-result
 invariant_of-result g c =
