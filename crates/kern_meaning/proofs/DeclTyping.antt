@@ -1,5 +1,5 @@
 -- The declared variables of a typed kernel have values of their kinds and scales.
-use Rattle.std.proofs.Common.{◌≡◌, ℕ, ◌≤◌, Bool, true, false, ◌&&◌, List, [], ◌∷◌, ◌++◌, ℤ, Option, Some, None, Ok, Err, cond, find, bytes_eq, option_map, refl, sym, ap, ◌∙◌, subst}
+use Rattle.std.proofs.Common.{◌≡◌, ℕ, ◌≤◌, Bool, true, false, ◌&&◌, List, [], ◌∷◌, ℤ, Option, Some, None, Ok, Err, cond, find, bytes_eq, option_map, refl, sym, ap, ◌∙◌, subst}
 use Rattle.std.specs.List.{AllByRecursion}
 use Rattle.pf_model.specs.declared.field.Field as ours
 use Rattle.pf_model.specs.Fields.{along_each_axis, field_of_particle, field_of_source}
@@ -8,17 +8,20 @@ use Rattle.pf_model.specs.Totals.{Source}
 use Rattle.kern_tree.specs.declared.kernel.Decl.{Decl}
 use Rattle.kern_tree.specs.declared.kernel.DeclKind.{DeclKind}
 use Rattle.kern_tree.specs.declared.kernel.DeclKind.TheVariants as declared_as
+use Rattle.kern_tree.specs.declared.kernel.Kernel.{Kernel}
 use Rattle.kern_tree.specs.declared.kernel.Kind.{Kind}
 use Rattle.kern_tree.specs.declared.kernel.Kind.TheVariants as kinds
 use Rattle.kern_tree.specs.Limits.{HasLimitedScale, scale_declared}
 use Rattle.kern_types.specs.declared.expr_type.ExprType.TheVariants as types
 use Rattle.kern_types.specs.declared.fault.TypeFault.{TypeFault}
 use Rattle.kern_types.specs.declared.fields.Field as theirs
-use Rattle.kern_types.specs.Declarations.{same_kind, fits_scale, field_check, what_check, decl_check, decls_check, all_decls_check, new_check}
+use Rattle.kern_types.specs.Declarations.{same_kind, fits_scale, field_check, what_check}
 use Rattle.kern_types.specs.Fields as types_table
 use Rattle.kern_types.specs.Fields.{there}
 use Rattle.kern_types.specs.Names.{declaration, declared_type}
 use Rattle.kern_types.specs.Steps.{OrFault, ◌>>◌, Check, pass, unless}
+use Rattle.kern_types.specs.TypingLaws.{DeclarationsFit}
+use Rattle.kern_types.specs.WellTyped.{WellTyped}
 use Rattle.kern_meaning.specs.Names.{fields_by_name, field_named, field_kind, scale_of, particle_has, source_has, fits, variable_value, declared_value, name_value}
 use Rattle.kern_meaning.specs.Values.{type_of_value, value_of_kind}
 use Rattle.kern_meaning.proofs.Fits.{Fits, FitsAs}
@@ -125,18 +128,13 @@ module _ (i : Particle) (j : Source) where
   what_fits at (declared_as.Param scale mantissa) checked bound place = (refl, bound)
   what_fits at (declared_as.Force kind scale combine) checked bound place = tt
 
-  found_fits : (test : Bool) (d : Decl) (rest : Option Decl) (decl : Decl) → cond test (Some d) rest ≡ Some decl → DeclFits d → (rest ≡ Some decl → DeclFits decl) → DeclFits decl
-  found_fits true d rest decl e h k = subst DeclFits (let same : d ≡ decl = cc in same) h
-  found_fits false d rest decl e h k = k e
+  found_limited : (test : Bool) (d : Decl) (rest : Option Decl) (decl : Decl) → cond test (Some d) rest ≡ Some decl → HasLimitedScale d → (rest ≡ Some decl → HasLimitedScale decl) → HasLimitedScale decl
+  found_limited true d rest decl e h k = subst HasLimitedScale (let same : d ≡ decl = cc in same) h
+  found_limited false d rest decl e h k = k e
 
-  each_fits : (earlier decls : List Decl) → decls_check earlier decls ≡ pass → AllByRecursion HasLimitedScale decls → (name : List ℕ) (decl : Decl) → declaration decls name ≡ Some decl → DeclFits decl
-  each_fits earlier [] checked bounds name decl e = absurd (let no : ⊥ = cc in no)
-  each_fits earlier (d ∷ ds) checked bounds name decl e =
-      let first = passed_first (decl_check earlier d) (decls_check (earlier ++ d ∷ []) ds) tt checked in
-      let others = passed_then (decl_check earlier d) (decls_check (earlier ++ d ∷ []) ds) tt checked in
-      found_fits (bytes_eq d.name name) d (declaration ds name) decl e
-      (what_fits d.place d.what (passed_then (new_check d.place (declaration earlier d.name)) (what_check d.place d.what) tt first) bounds.0)
-      (each_fits (earlier ++ d ∷ []) ds others bounds.1 name decl)
+  limited : (decls : List Decl) → AllByRecursion HasLimitedScale decls → (name : List ℕ) (decl : Decl) → declaration decls name ≡ Some decl → HasLimitedScale decl
+  limited [] bounds name decl e = absurd (let no : ⊥ = cc in no)
+  limited (d ∷ ds) bounds name decl e = found_limited (bytes_eq d.name name) d (declaration ds name) decl e bounds.0 (limited ds bounds.1 name decl)
 
-  pub declared_fit : (decls : List Decl) → all_decls_check decls ≡ pass → AllByRecursion HasLimitedScale decls → (name : List ℕ) (decl : Decl) → declaration decls name ≡ Some decl → DeclFits decl
-  declared_fit decls checked = each_fits [] decls (passed_first (decls_check [] decls) _ tt checked)
+  pub declared_fit : DeclarationsFit → (kernel : Kernel) → WellTyped kernel → AllByRecursion HasLimitedScale kernel.decls → (name : List ℕ) (decl : Decl) → declaration kernel.decls name ≡ Some decl → DeclFits decl
+  declared_fit fit kernel typed bounds name decl e = what_fits decl.place decl.what (fit kernel typed name decl e) (limited kernel.decls bounds name decl e)

@@ -24,6 +24,7 @@ use Rattle.kern_types.specs.Names.{declaration, earlier_assignment, name_type, n
 use Rattle.kern_types.specs.Statements as typing
 use Rattle.kern_types.specs.Statements.{target_check, same_check, again_check, given_check, what_declares, act_after, at_stmt_place, act_scope, stmt_after, stmts_after, set_check, set_after, give_check, contribution_check, if_check, condition_check, force_given}
 use Rattle.kern_types.specs.Steps.{OrFault, ◌>>◌, pass, unless}
+use Rattle.kern_types.specs.TypingLaws.{ContributionsFit}
 use Rattle.kern_meaning.specs.declared.stop.PairStop.TheVariants as pair_stops
 use Rattle.kern_meaning.specs.declared.stop.Stop.TheVariants as stops
 use Rattle.kern_meaning.specs.declared.value.Value.{Value}
@@ -31,7 +32,7 @@ use Rattle.kern_meaning.specs.declared.value.Value.TheVariants.{Num, Vec3, Condi
 use Rattle.kern_meaning.specs.Expressions.{value_of, number_value_of, truth_of, contribution_of}
 use Rattle.kern_meaning.specs.Names.{Known, declared_value, name_value, with_value}
 use Rattle.kern_meaning.specs.Operators.{number, truth, taken_by}
-use Rattle.kern_meaning.specs.Pair.{OrPairStop, PairState, Statements, at_statement, force_type, declared_force, act_statements, at_stmt, assign, give, choose, act_meaning, block_meaning}
+use Rattle.kern_meaning.specs.Pair.{OrPairStop, PairState, Statements, at_statement, force_type, act_statements, at_stmt, assign, give, choose, act_meaning, block_meaning}
 use Rattle.kern_meaning.specs.Stops.{OrStop, ◌>>=◌, only_if}
 use Rattle.kern_meaning.specs.Values.{type_of_value}
 use Rattle.kern_meaning.proofs.DeclTyping.{DeclFits, passed_first, passed_then, tested}
@@ -314,33 +315,18 @@ module _ (decls : List Decl) (i : Particle) (j : Source) (coincident : Bool) (de
 
   -- ---- name += value;
 
-  given_force : (place : ℕ) (decl : Option Decl) (earlier : Option Variable) (type : ExprType) → given_check place (what_declares decl) earlier type ≡ pass
-      → (kind : Kind) × (scale : ℕ) × (type ≡ types.Scaled kind scale) × (force_type decl ≡ Some (types.Scaled kind scale))
-  given_force place None None type e = absurd (let no : ⊥ = cc in no)
-  given_force place None (Some v) type e = absurd (let no : ⊥ = cc in no)
-  given_force place (Some decl) earlier type e = declared_given decl.what type e where
-    declared_given : (what : DeclKind) (type : ExprType) → given_check place (Some what) earlier type ≡ pass → (kind : Kind) × (scale : ℕ) × (type ≡ types.Scaled kind scale) × (declared_force what ≡ Some (types.Scaled kind scale))
-    declared_given (declared_as.Epi kind scale field) type e = absurd (let no : ⊥ = cc in no)
-    declared_given (declared_as.Epj kind scale field) type e = absurd (let no : ⊥ = cc in no)
-    declared_given (declared_as.Param scale value) type e = absurd (let no : ⊥ = cc in no)
-    declared_given (declared_as.Force kind scale combine) types.Condition e = absurd (let no : ⊥ = cc in no)
-    declared_given (declared_as.Force kind scale combine) (types.Scaled own own_scale) e =
-        let same = checked_same place kind scale own own_scale e in
-        (own, own_scale, refl, ap (λ k. Some (types.Scaled k scale)) same.0 ∙ ap (λ s. Some (types.Scaled own s)) same.1)
-
-  give_typed : (place : ℕ) (name : List ℕ) (value : Expr) (scope scope' : Scope) → IsLimited value → (contribution_check decls place name value scope >> Ok scope) ≡ Ok scope' → IsTypedStep scope scope' (record { count = 1; slots = 1; run = give decls coincident name value })
-  give_typed place name value scope scope' small e =
+  give_typed : (contributions_fit : ContributionsFit) (place : ℕ) (name : List ℕ) (value : Expr) (scope scope' : Scope) → IsLimited value → (contribution_check decls place name value scope >> Ok scope) ≡ Ok scope' → IsTypedStep scope scope' (record { count = 1; slots = 1; run = give decls coincident name value })
+  give_typed contributions_fit place name value scope scope' small e =
       let checked = passed_first (contribution_check decls place name value scope) (Ok scope) scope' e in
       let ends = passed_then (contribution_check decls place name value scope) (Ok scope) scope' e in
       let same : scope ≡ scope' = cc in
-      let r = reached (type_of decls scope value) (give_check decls place name scope) tt checked in
-      let given = given_force place (declaration decls name) (earlier_assignment scope.earlier name) r.value r.then_is in
+      let given = contributions_fit decls place name value scope checked in
       subst (λ (s : Scope). IsTypedStep scope s (record { count = 1; slots = 1; run = give decls coincident name value })) same (record {
         keeps = λ other variable h. h;
         goes = λ n slot state agrees.
             own_goes n scope (λ (v : Value). Unit {0}) (contribution_of state.known (force_type (declaration decls name)) value) (λ g. Ok (record { known = state.known; given = slice_set state.given slot (Some g) }))
             (subst (λ (t : Option ExprType). AnswerIs (λ (v : Value). Unit {0}) (contribution_of state.known t value)) (sym given.3)
-            (taken_answers given.0 given.1 (value_of state.known value) (fits_as scope state.known agrees (types.Scaled given.0 given.1) small (r.is ∙ ap Ok given.2))))
+            (taken_answers given.0 given.1 (value_of state.known value) (fits_as scope state.known agrees (types.Scaled given.0 given.1) small given.2)))
             (λ v h. agrees);
       })
 
@@ -380,39 +366,40 @@ module _ (decls : List Decl) (i : Particle) (j : Source) (coincident : Bool) (de
 
   -- ---- all
 
-  mutual
-    pub stmt_typed : {s : Stmt} → IsLimitedStmt s → (scope scope' : Scope) → stmt_after decls s scope ≡ Ok scope' → IsTypedStep scope scope' (act_meaning decls coincident s.act)
-    stmt_typed (limits.set {place = p} {name = n} {value = v} small) scope scope' e =
-        subst (λ (m : Statements). IsTypedStep scope scope' m) (sym (set_layer (act_statements decls coincident) at_stmt n v))
-        (set_typed p n v scope scope' small (sym (ap (λ f. f p scope) (set_layer (act_after decls) at_stmt_place n v)) ∙ e))
-    stmt_typed (limits.give {place = p} {name = n} {value = v} small) scope scope' e =
-        subst (λ (m : Statements). IsTypedStep scope scope' m) (sym (give_layer (act_statements decls coincident) at_stmt n v))
-        (give_typed p n v scope scope' small (sym (ap (λ f. f p scope) (give_layer (act_after decls) at_stmt_place n v)) ∙ e))
-    stmt_typed (limits.conditional {place = p} {condition = c} {body = body} {others = others} small one two) scope scope' e =
-        let e1 : if_after p c body others scope ≡ Ok scope' = sym (ap (λ f. f p scope) (if_layer (act_after decls) at_stmt_place c body others)) ∙ e in
-        let checked = passed_first (if_check decls p c scope) _ scope' e1 in
-        let e2 = passed_then (if_check decls p c scope) (stmts_after decls body scope >>= (λ first. stmts_after decls others (record { earlier = first.earlier; certain = scope.certain })
-        >>= (λ second. Ok (record { earlier = second.earlier; certain = common first.certain second.certain })))) scope' e1 in
-        let r = reached (type_of decls scope c) (condition_check p) tt checked in
-        let is : type_of decls scope c ≡ Ok types.Condition = r.is ∙ ap Ok (condition_is p r.value r.then_is) in
-        let f = reached (stmts_after decls body scope) _ scope' e2 in
-        let g = reached (stmts_after decls others (record { earlier = f.value.earlier; certain = scope.certain })) _ scope' f.then_is in
-        let ends = g.then_is in
-        let joined : Scope = record { earlier = g.value.earlier; certain = common f.value.certain g.value.certain } in
-        let same : joined ≡ scope' = cc in
-        subst (λ (m : Statements). IsTypedStep scope scope' m) (sym (if_layer (act_statements decls coincident) at_stmt c body others))
-        (if_ends p c scope f.value g.value (block_meaning decls coincident body) (block_meaning decls coincident others) small is (block_typed one scope f.value f.is)
-        (block_typed two (record { earlier = f.value.earlier; certain = scope.certain }) g.value g.is) scope' same)
+  module _ (contributions_fit : ContributionsFit) where
+    mutual
+      pub stmt_typed : {s : Stmt} → IsLimitedStmt s → (scope scope' : Scope) → stmt_after decls s scope ≡ Ok scope' → IsTypedStep scope scope' (act_meaning decls coincident s.act)
+      stmt_typed (limits.set {place = p} {name = n} {value = v} small) scope scope' e =
+          subst (λ (m : Statements). IsTypedStep scope scope' m) (sym (set_layer (act_statements decls coincident) at_stmt n v))
+          (set_typed p n v scope scope' small (sym (ap (λ f. f p scope) (set_layer (act_after decls) at_stmt_place n v)) ∙ e))
+      stmt_typed (limits.give {place = p} {name = n} {value = v} small) scope scope' e =
+          subst (λ (m : Statements). IsTypedStep scope scope' m) (sym (give_layer (act_statements decls coincident) at_stmt n v))
+          (give_typed contributions_fit p n v scope scope' small (sym (ap (λ f. f p scope) (give_layer (act_after decls) at_stmt_place n v)) ∙ e))
+      stmt_typed (limits.conditional {place = p} {condition = c} {body = body} {others = others} small one two) scope scope' e =
+          let e1 : if_after p c body others scope ≡ Ok scope' = sym (ap (λ f. f p scope) (if_layer (act_after decls) at_stmt_place c body others)) ∙ e in
+          let checked = passed_first (if_check decls p c scope) _ scope' e1 in
+          let e2 = passed_then (if_check decls p c scope) (stmts_after decls body scope >>= (λ first. stmts_after decls others (record { earlier = first.earlier; certain = scope.certain })
+          >>= (λ second. Ok (record { earlier = second.earlier; certain = common first.certain second.certain })))) scope' e1 in
+          let r = reached (type_of decls scope c) (condition_check p) tt checked in
+          let is : type_of decls scope c ≡ Ok types.Condition = r.is ∙ ap Ok (condition_is p r.value r.then_is) in
+          let f = reached (stmts_after decls body scope) _ scope' e2 in
+          let g = reached (stmts_after decls others (record { earlier = f.value.earlier; certain = scope.certain })) _ scope' f.then_is in
+          let ends = g.then_is in
+          let joined : Scope = record { earlier = g.value.earlier; certain = common f.value.certain g.value.certain } in
+          let same : joined ≡ scope' = cc in
+          subst (λ (m : Statements). IsTypedStep scope scope' m) (sym (if_layer (act_statements decls coincident) at_stmt c body others))
+          (if_ends p c scope f.value g.value (block_meaning decls coincident body) (block_meaning decls coincident others) small is (block_typed one scope f.value f.is)
+          (block_typed two (record { earlier = f.value.earlier; certain = scope.certain }) g.value g.is) scope' same)
 
-    pub block_typed : {ss : List Stmt} → IsLimitedBlock ss → (scope scope' : Scope) → stmts_after decls ss scope ≡ Ok scope' → IsTypedStep scope scope' (block_meaning decls coincident ss)
-    block_typed limits.none scope scope' e =
-        let same : scope ≡ scope' = cc in
-        subst (λ (s : Scope). IsTypedStep scope s (block_meaning decls coincident [])) same (record { keeps = λ name variable h. h; goes = λ n slot state agrees. agrees })
-    block_typed (limits.more {stmt = s} {stmts = ss} one others) scope scope' e =
-        let r = reached (stmt_after decls s scope) (stmts_after decls ss) scope' e in
-        let first = stmt_typed one scope r.value r.is in
-        let more = block_typed others r.value scope' r.then_is in
-        record {
-          keeps = λ name variable h. more.keeps name variable (first.keeps name variable h);
-          goes = λ n slot state agrees. goes_then r.value scope' ((act_meaning decls coincident s.act).run n slot state) _ (first.goes n slot state agrees) (λ next h. more.goes _ _ next h);
-        }
+      pub block_typed : {ss : List Stmt} → IsLimitedBlock ss → (scope scope' : Scope) → stmts_after decls ss scope ≡ Ok scope' → IsTypedStep scope scope' (block_meaning decls coincident ss)
+      block_typed limits.none scope scope' e =
+          let same : scope ≡ scope' = cc in
+          subst (λ (s : Scope). IsTypedStep scope s (block_meaning decls coincident [])) same (record { keeps = λ name variable h. h; goes = λ n slot state agrees. agrees })
+      block_typed (limits.more {stmt = s} {stmts = ss} one others) scope scope' e =
+          let r = reached (stmt_after decls s scope) (stmts_after decls ss) scope' e in
+          let first = stmt_typed one scope r.value r.is in
+          let more = block_typed others r.value scope' r.then_is in
+          record {
+            keeps = λ name variable h. more.keeps name variable (first.keeps name variable h);
+            goes = λ n slot state agrees. goes_then r.value scope' ((act_meaning decls coincident s.act).run n slot state) _ (first.goes n slot state agrees) (λ next h. more.goes _ _ next h);
+          }

@@ -9,6 +9,7 @@ use Rattle.kern_tree.specs.Limits.{ParsedKernelsKeepLimits, KeepsLimits}
 use Rattle.kern_types.specs.Declarations.{all_decls_check}
 use Rattle.kern_types.specs.Names.{declaration}
 use Rattle.kern_types.specs.Statements.{stmts_after}
+use Rattle.kern_types.specs.TypingLaws.{ContributionsFit, DeclarationsFit}
 use Rattle.kern_types.specs.WellTyped as typed
 use Rattle.kern_meaning.specs.declared.stop.PairStop.TheVariants as pair_stops
 use Rattle.kern_meaning.specs.declared.value.Value.{Value}
@@ -16,7 +17,7 @@ use Rattle.kern_meaning.specs.Names.{known_at_start, value_if_declared}
 use Rattle.kern_meaning.specs.Pair.{OrPairStop, PairState, as_answer, is_same_place, block_meaning, pair_of}
 use Rattle.kern_meaning.specs.Stops.{◌>>=◌}
 use Rattle.kern_meaning.specs.Typing.{PairAnswer, HasOnePair, Typing}
-use Rattle.kern_meaning.proofs.DeclTyping.{DeclFits, declared_fit, passed_first, passed_then}
+use Rattle.kern_meaning.proofs.DeclTyping.{DeclFits, declared_fit, passed_then}
 use Rattle.kern_meaning.proofs.StmtTyping.{Agrees, Goes, block_typed}
 
 same_answer : (a b : PairAnswer) → as_answer a ≡ as_answer b → a ≡ b
@@ -42,14 +43,13 @@ ended decls i j coincident fit scope (Ok state) h = tt
 ended decls i j coincident fit scope (Err (pair_stops.Fault fault)) h = tt
 ended decls i j coincident fit scope (Err pair_stops.NoResult) h = h
 
-pub typing : ParsedKernelsKeepLimits → Typing
-typing limits kernel i j parsed (scope, e) =
+pub typing : ParsedKernelsKeepLimits → DeclarationsFit → ContributionsFit → Typing
+typing limits declarations contributions kernel i j parsed (scope, e) =
     let small : KeepsLimits kernel = limits kernel parsed in
-    let checked = passed_first (all_decls_check kernel.decls) (stmts_after kernel.decls kernel.body typed.at_start) scope e in
     let after = passed_then (all_decls_check kernel.decls) (stmts_after kernel.decls kernel.body typed.at_start) scope e in
-    let fit = declared_fit i j kernel.decls checked small.decls in
+    let fit = declared_fit i j declarations kernel (scope, e) small.decls in
     let coincident : Bool = is_same_place i.at j.at in
-    let step = block_typed kernel.decls i j coincident fit small.body typed.at_start scope after in
+    let step = block_typed kernel.decls i j coincident fit contributions small.body typed.at_start scope after in
     let start : PairState = record { known = known_at_start kernel.decls i j; given = replicate (block_meaning kernel.decls coincident kernel.body).slots None } in
     let agrees : Agrees kernel.decls i j coincident fit typed.at_start start.known = record {
       declared = λ name decl is. ap (value_if_declared i j) is;

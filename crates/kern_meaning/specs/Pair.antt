@@ -1,5 +1,5 @@
 -- Pair: what a particle and an item give each other's forces by a kernel, or the first fault.
-use Rattle.std.specs.Prelude.{◌≡◌, ℕ, ◌+◌, Bool, true, false, ◌==◌, ◌&&◌, List, [], ◌∷◌, ◌++◌, Option, Some, None, Result, Ok, Err, map, flat_map, replicate, slice_set, if◌then◌else◌}
+use Rattle.std.specs.Prelude.{◌≡◌, ℕ, ◌+◌, Bool, true, false, ◌==◌, ◌&&◌, List, [], ◌∷◌, Option, Some, None, Result, Ok, Err, map, replicate, slice_set, if◌then◌else◌}
 use Rattle.std.specs.List.{filter_map, zip}
 use Rattle.std.specs.Str.{bytes_eq}
 use Rattle.pf_geom.specs.Position.{Position}
@@ -9,16 +9,14 @@ use Rattle.pf_num.specs.declared.fault.NumFault.{NumFault}
 use Rattle.pf_num.specs.declared.fault.NumFault.TheVariants as numeric
 use Rattle.kern_tree.specs.declared.expr.Expr.{Expr}
 use Rattle.kern_tree.specs.declared.kernel.Decl.{Decl}
-use Rattle.kern_tree.specs.declared.kernel.DeclKind.{DeclKind}
-use Rattle.kern_tree.specs.declared.kernel.DeclKind.TheVariants as declared_as
 use Rattle.kern_tree.specs.declared.kernel.Kernel.{Kernel}
 use Rattle.kern_tree.specs.declared.stmt.Act.{Act}
 use Rattle.kern_tree.specs.declared.stmt.Act.TheFolds.{fold-Act}
 use Rattle.kern_tree.specs.declared.stmt.Act.TheOpen.{Act-F, Stmt-F}
 use Rattle.kern_tree.specs.declared.stmt.Act.TheOpen as acts
 use Rattle.kern_tree.specs.declared.stmt.Stmt.{Stmt}
-use Rattle.kern_types.specs.declared.expr_type.ExprType.{ExprType}
-use Rattle.kern_types.specs.declared.expr_type.ExprType.TheVariants.{Scaled}
+pub use Rattle.kern_types.specs.Declarations.{declared_force, force_type}
+pub use Rattle.kern_types.specs.Statements.{act_targets, stmt_targets, targets_in}
 use Rattle.kern_types.specs.Names.{declaration}
 use Rattle.kern_meaning.specs.declared.fault.PairFault.{PairFault}
 use Rattle.kern_meaning.specs.declared.fault.PairKind.{PairKind}
@@ -82,15 +80,6 @@ block_of (first ∷ others) = record {
       first.run n slot state >>= (λ next. (block_of others).run (n + first.count) (slot + first.slots) next);
 }
 
-abbrev pub declared_force : DeclKind → Option ExprType
-declared_force (declared_as.Force kind scale combine) = Some (Scaled kind scale)
-declared_force _ = None
-
--- the kind and the scale of a FORCE variable
-abbrev pub force_type : Option Decl → Option ExprType
-force_type None = None
-force_type (Some decl) = declared_force decl.what
-
 abbrev pub at_stmt : Stmt-F Statements Statements → Statements
 at_stmt stmt = stmt.act
 
@@ -147,18 +136,6 @@ abbrev pub Pair : Kernel → Particle → Source → Result (List (Option Value)
 Pair kernel i j answer = pair_of kernel i j ≡ as_answer answer
 
 -- ---- contributions to one FORCE variable
-
-abbrev pub act_targets : Act-F (List (List ℕ)) (List (List ℕ)) → List (List ℕ)
-act_targets (acts.Set name value) = []
-act_targets (acts.Give name value) = name ∷ []
-act_targets (acts.If condition body others) = flat_map (λ names. names) body ++ flat_map (λ names. names) others
-
-abbrev pub stmt_targets : Stmt-F (List (List ℕ)) (List (List ℕ)) → List (List ℕ)
-stmt_targets stmt = stmt.act
-
--- the names that the `+=` in these statements give to, in text order
-abbrev pub targets_in : List Stmt → List (List ℕ)
-targets_in stmts = flat_map (λ stmt. fold-Act (List (List ℕ)) (List (List ℕ)) act_targets stmt_targets stmt.act) stmts
 
 abbrev pub given_to : List ℕ → List ℕ × Option Value → Option Value
 given_to name slot = if bytes_eq slot.0 name then slot.1 else None

@@ -1,6 +1,7 @@
 ghost use Rattle.kern_meaning.specs.Typing.{Typing};
 
 use kern_tree::parsed_kernels_keep_limits;
+use kern_types::{contributions_fit, declarations_fit};
 
 /// For a typed kernel each particle and each item have exactly one answer: contributions, or a first
 /// fault. So a wrong kind, a wrong scale or a name without a value is never met.
@@ -8,4 +9,6 @@ pub fn typed_kernels_have_one_pair()
     ensures { Typing }
 {
     parsed_kernels_keep_limits();
+    declarations_fit();
+    contributions_fit();
 }

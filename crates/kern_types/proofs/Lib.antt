@@ -1,5 +1,12 @@
 pub mod Acts
+pub mod Checks
 pub mod Kernels
+pub mod Layers
+pub mod LawsOfDeclarations
+pub mod LawsOfStatements
+pub mod Paths
 pub mod Nodes
 pub mod Nothing
 pub mod Numbers
+pub mod Scales
+pub mod SlotForces

@@ -1,15 +1,19 @@
 -- Contributions are nodes.
-use Rattle.std.proofs.Common.{◌≡◌, ℕ, ◌+◌, ◌-◌, ◌^◌, ◌≤◌, List, [], ◌∷◌, ◌++◌, length, map, flat_map, min, refl, sym, ap, ◌∙◌, arith, length-append}
+use Rattle.std.proofs.Common.{◌≡◌, ℕ, ◌+◌, ◌-◌, ◌^◌, ◌≤◌, List, [], ◌∷◌, ◌++◌, length, map, flat_map, min, refl, sym, ap, ◌∙◌, arith, length-append, fold, sum}
 use Rattle.kern_tree.specs.declared.expr.Expr.{Expr}
 use Rattle.kern_tree.specs.declared.kernel.Decl.{Decl}
 use Rattle.kern_tree.specs.declared.kernel.Kernel.{Kernel}
 use Rattle.kern_tree.specs.declared.stmt.Act.{Act}
 use Rattle.kern_tree.specs.declared.stmt.Act.TheVariants as acts
-use Rattle.kern_tree.specs.declared.stmt.Act.TheFolds.{fold-roll-Act, fold-Stmt}
+use Rattle.kern_tree.specs.declared.stmt.Act.TheFolds.{fold-roll-Act, fold-Stmt, fold_out-Stmt}
 use Rattle.kern_tree.specs.declared.stmt.Act.TheOpen as layers
 use Rattle.kern_tree.specs.declared.stmt.Stmt.{Stmt}
 use Rattle.kern_tree.specs.Nodes.{act_nodes, expr_nodes, kernel_nodes, stmt_nodes, stmt_step}
-use Rattle.kern_types.specs.Statements.{nodes_in_act, slots_in, slots_in_act}
+use Rattle.kern_tree.specs.Grammar.{stmt_node}
+use Rattle.kern_tree.specs.Limits as limits
+use Rattle.kern_tree.specs.Limits.{IsLimitedStmt, IsLimitedBlock}
+use Rattle.kern_types.specs.Statements.{act_slots, stmt_slots, nodes_in_act, slots_in, slots_in_act}
+use Rattle.kern_types.proofs.Layers.{of_stmt, set_layer, give_layer, if_layer}
 
 all_nodes : (block : List Stmt) → flat_map (λ ns. ns) (map (fold-Stmt (List ℕ) (List ℕ) act_nodes stmt_step) block) ≡ flat_map stmt_nodes block
 all_nodes [] = refl
@@ -42,3 +46,51 @@ pub few_slots : (kernel : Kernel) (body : List Stmt) (count : ℕ) → body ≡ 
     → slots_in body ≤ length (flat_map stmt_nodes body) → count ≡ slots_in kernel.body
 few_slots kernel body count same few counted within =
     omega (arith, length-append (flat_map (λ (d : Decl). d.place ∷ []) kernel.decls) (flat_map stmt_nodes kernel.body), ap slots_in same, ap (λ ss. length (flat_map stmt_nodes ss)) same)
+
+-- ---- by the statements themselves
+
+nodes_are : (s : Stmt) → stmt_nodes s ≡ of_stmt act_nodes stmt_step s
+nodes_are s = fold_out-Stmt (List ℕ) (List ℕ) act_nodes stmt_step s
+
+nodes_of_all : (block : List Stmt) → flat_map (λ (ns : List ℕ). ns) (map (of_stmt act_nodes stmt_step) block) ≡ flat_map stmt_nodes block
+nodes_of_all [] = refl
+nodes_of_all (s ∷ block) = ap (λ ns. ns ++ flat_map (λ (ms : List ℕ). ms) (map (of_stmt act_nodes stmt_step) block)) (sym (nodes_are s)) ∙ ap (λ ns. stmt_nodes s ++ ns) (nodes_of_all block)
+
+sum_from : (a : ℕ) (ns : List ℕ) → fold (λ x y. x + y) a ns ≡ a + fold (λ x y. x + y) 0 ns
+sum_from a [] = omega arith
+sum_from a (n ∷ ns) = omega (arith, sum_from (a + n) ns, sum_from (0 + n) ns)
+
+pub sum_more : (n : ℕ) (ns : List ℕ) → sum (n ∷ ns) ≡ n + sum ns
+sum_more n ns = let from = sum_from (0 + n) ns in omega (arith, from)
+
+pub slots_of_all : (block : List Stmt) → sum (map (of_stmt act_slots stmt_slots) block) ≡ slots_in block
+slots_of_all block = ap sum (each block) where
+  each : (block : List Stmt) → map (of_stmt act_slots stmt_slots) block ≡ map (λ (s : Stmt). slots_in_act s.act) block
+  each [] = refl
+  each (s ∷ block) = ap (λ ns. slots_in_act s.act ∷ ns) (each block)
+
+mutual
+  stmt_within : {s : Stmt} → IsLimitedStmt s → slots_in_act s.act ≤ length (stmt_nodes s)
+  stmt_within (limits.set {place = p} {name = n} {value = v} h) = omega (arith, set_layer act_slots stmt_slots n v)
+  stmt_within (limits.give {place = p} {name = n} {value = v} h) = omega (arith, give_layer act_slots stmt_slots n v, ap length (nodes_are (stmt_node p (acts.Give n v))))
+  stmt_within (limits.conditional {place = p} {condition = c} {body = body} {others = others} h one two) =
+      let nodes : stmt_nodes (stmt_node p (acts.If c body others)) ≡ p ∷ (expr_nodes c ++ flat_map stmt_nodes body ++ flat_map stmt_nodes others) =
+      nodes_are (stmt_node p (acts.If c body others)) ∙ ap (λ ns. p ∷ ns) (if_layer act_nodes stmt_step c body others)
+      ∙ ap (λ ns. p ∷ (expr_nodes c ++ ns ++ flat_map (λ (ms : List ℕ). ms) (map (of_stmt act_nodes stmt_step) others))) (nodes_of_all body)
+      ∙ ap (λ ns. p ∷ (expr_nodes c ++ flat_map stmt_nodes body ++ ns)) (nodes_of_all others) in
+      omega (
+        arith,
+        if_layer act_slots stmt_slots c body others,
+        slots_of_all body,
+        slots_of_all others,
+        ap length nodes,
+        length-append (expr_nodes c ++ flat_map stmt_nodes body) (flat_map stmt_nodes others),
+        length-append (expr_nodes c) (flat_map stmt_nodes body),
+        block_slots one,
+        block_slots two,
+      )
+
+  pub block_slots : {ss : List Stmt} → IsLimitedBlock ss → slots_in ss ≤ length (flat_map stmt_nodes ss)
+  block_slots limits.none = omega arith
+  block_slots (limits.more {stmt = s} {stmts = ss} one others) =
+      omega (arith, length-append (stmt_nodes s) (flat_map stmt_nodes ss), sum_more (slots_in_act s.act) (map (λ (x : Stmt). slots_in_act x.act) ss), stmt_within one, block_slots others)

@@ -8,6 +8,8 @@ use Rattle.kern_tree.specs.declared.kernel.DeclKind.{DeclKind}
 use Rattle.kern_tree.specs.declared.kernel.DeclKind.TheVariants as declared_as
 use Rattle.kern_tree.specs.declared.kernel.Kind.{Kind}
 use Rattle.kern_tree.specs.declared.kernel.Kind.TheVariants as kinds
+use Rattle.kern_types.specs.declared.expr_type.ExprType.{ExprType}
+use Rattle.kern_types.specs.declared.expr_type.ExprType.TheVariants.{Scaled}
 use Rattle.kern_types.specs.declared.fault.TypeFault.TheVariants as faults
 use Rattle.kern_types.specs.declared.fields.Field.{Field}
 use Rattle.kern_types.specs.declared.force_var.ForceVar.{ForceVar}
@@ -87,3 +89,12 @@ force_as name _ = []
 -- the FORCE variables in order of declaration
 abbrev pub forces_of : List Decl → List ForceVar
 forces_of decls = flat_map (λ decl. force_as decl.name decl.what) decls
+
+abbrev pub declared_force : DeclKind → Option ExprType
+declared_force (declared_as.Force kind scale combine) = Some (Scaled kind scale)
+declared_force _ = None
+
+-- the kind and the scale of a FORCE variable
+abbrev pub force_type : Option Decl → Option ExprType
+force_type None = None
+force_type (Some decl) = declared_force decl.what

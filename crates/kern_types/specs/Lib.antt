@@ -5,7 +5,9 @@ pub mod Forms
 pub mod NameLists
 pub mod Names
 pub mod OneTyping
+pub mod Paths
 pub mod Scopes
 pub mod Statements
 pub mod Steps
+pub mod TypingLaws
 pub mod WellTyped

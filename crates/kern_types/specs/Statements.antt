@@ -1,5 +1,5 @@
 -- The checks of statements, and the scope after them.
-use Rattle.std.specs.Prelude.{ℕ, ◌+◌, ◌==◌, List, [], ◌∷◌, ◌++◌, Option, Some, None, Ok, Err, map, sum}
+use Rattle.std.specs.Prelude.{ℕ, ◌+◌, ◌==◌, List, [], ◌∷◌, ◌++◌, Option, Some, None, Ok, Err, flat_map, map, sum}
 use Rattle.kern_tree.specs.declared.expr.Expr.{Expr}
 use Rattle.kern_tree.specs.declared.kernel.Decl.{Decl}
 use Rattle.kern_tree.specs.declared.kernel.DeclKind.{DeclKind}
@@ -163,6 +163,18 @@ slots_in_act = fold-Act ℕ ℕ act_slots stmt_slots
 -- the number of contributions in these statements
 abbrev pub slots_in : List Stmt → ℕ
 slots_in stmts = sum (map (λ stmt. slots_in_act stmt.act) stmts)
+
+abbrev pub act_targets : Act-F (List (List ℕ)) (List (List ℕ)) → List (List ℕ)
+act_targets (acts.Set name value) = []
+act_targets (acts.Give name value) = name ∷ []
+act_targets (acts.If condition body others) = flat_map (λ names. names) body ++ flat_map (λ names. names) others
+
+abbrev pub stmt_targets : Stmt-F (List (List ℕ)) (List (List ℕ)) → List (List ℕ)
+stmt_targets stmt = stmt.act
+
+-- the names that the `+=` in these statements give to, in text order
+abbrev pub targets_in : List Stmt → List (List ℕ)
+targets_in stmts = flat_map (λ stmt. fold-Act (List (List ℕ)) (List (List ℕ)) act_targets stmt_targets stmt.act) stmts
 
 -- the nodes of a statement but its own
 abbrev pub nodes_in_act : Act → List ℕ

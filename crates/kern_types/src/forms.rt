@@ -7,7 +7,8 @@ use kern_token::MOST_SCALE;
 use kern_tree::Kind::{self, Num, Vec3};
 use kern_tree::{Op1, Op2, Op3};
 
-pub(crate) fn one_type(place: u32, op: Op1, a: ExprType) -> Result<ExprType, TypeFault>
+/// The type of `-a`, `!a`, `isqrt(a)` or `abs(a)` at this place, by that of its operand.
+pub fn one_type(place: u32, op: Op1, a: ExprType) -> Result<ExprType, TypeFault>
     ensures { result ≡ rules.one_type place op a }
 {
     match op {
@@ -18,7 +19,8 @@ pub(crate) fn one_type(place: u32, op: Op1, a: ExprType) -> Result<ExprType, Typ
     }
 }
 
-pub(crate) fn two_type(place: u32, op: Op2, a: ExprType, b: ExprType) -> Result<ExprType, TypeFault>
+/// The type of an operator, `min` or `max`, by those of its operands from the left.
+pub fn two_type(place: u32, op: Op2, a: ExprType, b: ExprType) -> Result<ExprType, TypeFault>
     ensures { result ≡ rules.two_type place op a b }
 {
     match op {
@@ -31,7 +33,8 @@ pub(crate) fn two_type(place: u32, op: Op2, a: ExprType, b: ExprType) -> Result<
     }
 }
 
-pub(crate) fn three_type(
+/// The type of `muldiv` or `vec`.
+pub fn three_type(
     place: u32,
     op: Op3,
     a: ExprType,
@@ -46,7 +49,8 @@ pub(crate) fn three_type(
     }
 }
 
-pub(crate) fn to_type(place: u32, scale: u32, a: ExprType) -> Result<ExprType, TypeFault>
+/// The type of `to(scale, a)`.
+pub fn to_type(place: u32, scale: u32, a: ExprType) -> Result<ExprType, TypeFault>
     ensures { result ≡ rules.to_type place scale a }
 {
     match a {
@@ -55,7 +59,8 @@ pub(crate) fn to_type(place: u32, scale: u32, a: ExprType) -> Result<ExprType, T
     }
 }
 
-pub(crate) fn part_type(place: u32, a: ExprType) -> Result<ExprType, TypeFault>
+/// The type of a component.
+pub fn part_type(place: u32, a: ExprType) -> Result<ExprType, TypeFault>
     ensures { result ≡ rules.part_type place a }
 {
     match a {
