@@ -1,4 +1,4 @@
-ghost use Rattle.std.specs.Prelude.{◌≡◌, ◌++◌, None, OnOk, IfOk, map, replicate};
+ghost use Rattle.std.specs.Prelude.{◌≡◌, ◌++◌, None, OnOk, IfOk, length, map, replicate};
 ghost use Rattle.kern_types.specs.Names.{declaration as declaration_of};
 ghost use Rattle.kern_types.specs.Statements.{slots_in};
 ghost use Rattle.kern_meaning.specs.Prepared.{IsMadeFor};
@@ -14,10 +14,12 @@ use kern_types::{Typed, kernel, slots};
 use pf_num::OutOfMemory;
 use std::alloc::{AllocError, Global};
 
-/// Room for the pairs of a kernel, in which its names are resolved. No `+=` has given anything yet.
+/// Room for the pairs of a kernel, in which its names are resolved. No name has a value and no `+=` has given anything
+/// yet.
 pub fn for_kernel(alloc: Global, t: &Typed) -> Result<Scratch, OutOfMemory>
     ensures made { IfOk result (IsMadeFor t.now) }
     ensures empty { IfOk result (λ s. s.given ≡ replicate (slots_in t.now.body) None) }
+    ensures unset { IfOk result (λ s. s.values ≡ replicate (length s.names) None) }
 {
     let k = kernel(t);
     let names = names_of(alloc, k)?;
