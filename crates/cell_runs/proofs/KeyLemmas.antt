@@ -1,17 +1,17 @@
 -- Keys in ascending order, and the cells that they lie in.
-use Rattle.std.proofs.Common.{◌≡◌, ℕ, zero, suc, ◌+◌, ◌-◌, ◌*◌, ◌/◌, ◌^◌, ◌<◌, ◌≤◌, ◌↔◌, Bool, true, false, List, length, get_or, nat_eq, inl, inr, refl, sym, ◌∙◌, ap, arith}
+use Rattle.std.proofs.Common.{◌≡◌, ℕ, zero, suc, ◌+◌, ◌-◌, ◌*◌, ◌/◌, ◌%◌, ◌^◌, ◌<◌, ◌≤◌, ◌↔◌, true, false, List, length, get_or, take, nat_lt, inl, inr, refl, sym, ◌∙◌, ap, subst, arith, bit_and}
 use Rattle.std.specs.List.Sorted.{IsNonDecreasing, IsPartitionedBy, IsPartitionPoint}
-use Rattle.std.proofs.Math.Nat.{div-mul-le_self, pow-suc, mul-pos, mul-one, div-eq_of_lt, lt-mul-div-succ, pow-le-pow_right}
-use Rattle.std.proofs.lemmas.Nat.{pow-add, pow_pos, le-div, div_below, xor_lt, xor_shr, leading_length}
+use Rattle.std.proofs.Math.Nat.{div-mul-le_self, pow-suc, mul-pos, mul-one, mul_comm, add-mul, one-mul, div-add-mod', div-eq_of_lt, div-eq_of_lt-le, lt-mul-div-succ, pow-le-pow_right}
+use Rattle.std.proofs.lemmas.Nat.{pow-add, pow_pos, le-div, div_below, xor_lt, xor_shr, leading_length, and_mask}
 use Rattle.std.specs.Int.Bits.{bit_xor, xor_self, xor_assoc, xor_zero_r}
 use Rattle.std.specs.Int.Count.{count_leading_zeros}
-use Rattle.std.proofs.lemmas.Bool.{cases_lt, eqb-true, eq-eqb, both_ways}
-use Rattle.std.proofs.lemmas.List.{get_or_default}
+use Rattle.std.proofs.lemmas.Bool.{cases_lt, ltb-true, ltb-false, lt-ltb}
+use Rattle.std.proofs.lemmas.List.{length-take-le, get_or-take}
 use Rattle.pf_geom.specs.Bounds.{Bounds}
 use Rattle.pf_geom.specs.Gap.{square, gap2_to}
 use Rattle.pf_geom.specs.Octant.{Octant, side_at, IsCell}
 use Rattle.pf_model.specs.Criterion.{Criterion, Passes}
-use Rattle.cell_runs.specs.Finding.{cell_of_key, IsCellFront}
+use Rattle.cell_runs.specs.Finding.{cell_of_key, IsCellFront, past_cell}
 
 abbrev octant : ℕ → ℕ → Octant
 octant level key = record { level = level; key = key }
@@ -52,37 +52,73 @@ cells_ascend keys level i j d ascending least within =
     let rise : low ≤ high = ascending i j d least within in
     le-div (low / width) high width (eight_pos (30 - level)) (omega (arith, div-mul-le_self low width))
 
--- whether a key lies in the cell of the first at a level
-abbrev pub is_with_first : List ℕ → ℕ → ℕ → Bool
-is_with_first keys level key = nat_eq (key / 8 ^ (30 - level)) (get_or keys 0 0 / 8 ^ (30 - level))
-
-pub with_first-first : (keys : List ℕ) (level : ℕ) → IsNonDecreasing keys → IsPartitionedBy (is_with_first keys level) keys
-with_first-first keys level ascending i j d least within e =
+-- a key from the first of a cell's keys on lies in the cell exactly where it lies before the first past it
+in_cell : (first key level : ℕ) → first ≤ key → (key < past_cell first level) ↔ (key / 8 ^ (30 - level) ≡ first / 8 ^ (30 - level))
+in_cell first key level from =
     let width = 8 ^ (30 - level) in
-    let own = eqb-true (get_or keys j d / width) (get_or keys 0 0 / width) e in
-    let from = cells_ascend keys level 0 i d ascending (omega arith) (omega arith) in
-    let to = cells_ascend keys level i j d ascending least within in
-    let first = ap (λ (k : ℕ). k / width) (get_or_default keys 0 d 0 (omega arith)) in
-    eq-eqb (get_or keys i d / width) (get_or keys 0 0 / width) (omega arith)
+    let least : first / width * width ≤ key = omega (arith, div-mul-le_self first width) in (
+      λ before. div-eq_of_lt-le width least before,
+      λ same.
+          let below : key < width * (key / width + 1) = lt-mul-div-succ key (eight_pos (30 - level)) in
+          let turned : width * (key / width + 1) ≡ past_cell first level = mul_comm width (key / width + 1) ∙ ap (λ q. (q + 1) * width) same in
+          omega (arith, turned),
+    )
 
--- the search for the end of the first cell
-pub front_from_search : (keys : List ℕ) (level len : ℕ) → 1 ≤ length keys → len ≤ length keys → IsPartitionPoint (λ k. is_with_first keys level k ≡ true) (λ k. is_with_first keys level k ≡ false) keys len → IsCellFront keys level len
-front_from_search keys level len some bound point =
-    let width = 8 ^ (30 - level) in
+-- keys before a limit stand first
+pub before_first : (keys : List ℕ) (past : ℕ) → IsNonDecreasing keys → IsPartitionedBy (λ key. nat_lt key past) keys
+before_first keys past ascending i j d least within before =
+    let rise : get_or keys i d ≤ get_or keys j d = ascending i j d least within in
+    lt-ltb (get_or keys i d) past (omega (arith, ltb-true (get_or keys j d) past before))
+
+pub ascending_front : (keys : List ℕ) (reach : ℕ) → reach ≤ length keys → IsNonDecreasing keys → IsNonDecreasing (take reach keys)
+ascending_front keys reach within ascending i j d least inside =
+    let long = length-take-le reach keys within in
+    let low = get_or-take reach keys i d (omega arith) in
+    let high = get_or-take reach keys j d (omega arith) in
+    let rise : get_or keys i d ≤ get_or keys j d = ascending i j d least (omega arith) in
+    omega (arith, low, high)
+
+-- the search for the end of the first cell, among so many keys that it has no more
+pub front_from_search : (keys : List ℕ) (level past reach len : ℕ) → IsNonDecreasing keys → past ≡ past_cell (get_or keys 0 0) level → 1 ≤ reach → reach ≤ length keys → (reach < length keys → past ≤ get_or keys reach 0) → len ≤ length (take reach keys) → IsPartitionPoint (λ key. nat_lt key past ≡ true) (λ key. nat_lt key past ≡ false) (take reach keys) len → IsCellFront keys level len
+front_from_search keys level past reach len ascending past_is some within ends bound point =
+    let first = get_or keys 0 0 in
+    let long = length-take-le reach keys within in
+    let from : (k : ℕ) → k < length keys → first ≤ get_or keys k 0 = λ k inside. ascending 0 k 0 (omega arith) inside in
+    let before : (k : ℕ) → k < len → get_or keys k 0 < past = λ k less. (let read = get_or-take reach keys k 0 (omega arith) in let yes = ltb-true (get_or (take reach keys) k 0) past (point.0 k 0 (omega arith) less) in omega (arith, read)) in
+    let after : (k : ℕ) → len ≤ k → k < length keys → past ≤ get_or keys k 0 = λ k more inside. elim (cases_lt k reach) [
+      | inl near ↦ (let read = get_or-take reach keys k 0 near in let no = ltb-false (get_or (take reach keys) k 0) past (point.1 k 0 more (omega arith)) in omega (arith, read))
+      | inr far ↦ (let end = ends (omega arith) in let rise : get_or keys reach 0 ≤ get_or keys k 0 = ascending reach k 0 far inside in omega arith)
+    ] in
+    let own : first < past = rw past_is ((in_cell first first level (omega arith)).1 refl) in
     record {
       some = elim (cases_lt 0 len) [
         | inl more ↦ more
-        | inr none ↦ absurd (both_ways (is_with_first keys level (get_or keys 0 0)) (point.1 0 0 none some) (eq-eqb (get_or keys 0 0 / width) (get_or keys 0 0 / width) refl))
+        | inr none ↦ absurd (let no = after 0 none (omega arith) in omega (arith, own))
       ];
-      inside = bound;
-      whole = λ k within. (
-        λ less. same_cell (get_or keys k 0) (get_or keys 0 0) level (eqb-true _ _ (point.0 k 0 (omega arith) less)),
-        λ same. elim (cases_lt k len) [
-          | inl less ↦ less
-          | inr past ↦ absurd (both_ways (is_with_first keys level (get_or keys k 0)) (point.1 k 0 past within) (eq-eqb _ _ (ap (λ (c : Octant). c.key) same)))
-        ],
-      );
+      inside = omega arith;
+      whole = λ k inside.
+          let cell = in_cell first (get_or keys k 0) level (from k inside) in (
+            λ less. same_cell (get_or keys k 0) first level (cell.0 (subst (λ n. get_or keys k 0 < n) past_is (before k less))),
+            λ same. elim (cases_lt k len) [
+              | inl less ↦ less
+              | inr more ↦ absurd (let least = cell.1 (ap (λ (c : Octant). c.key) same) in let no = after k more inside in omega (arith, past_is))
+            ],
+          );
     }
+
+-- the first key past a cell, from the last bits of a key in it
+pub past_from_bits : (key n : ℕ) → key - bit_and key (2 ^ (3 * n) - 1) + 2 ^ (3 * n) ≡ (key / 8 ^ n + 1) * 8 ^ n
+past_from_bits key n =
+    let width = 2 ^ (3 * n) in
+    let rest : bit_and key (width - 1) ≡ key % width = and_mask key (3 * n) in
+    let whole : key - bit_and key (width - 1) + width ≡ (key / width + 1) * width = omega (arith, rest, div-add-mod' key width, add-mul (key / width) 1 width, one-mul width) in
+    whole ∙ ap (λ w. (key / w + 1) * w) (eight_pow n)
+
+pub width_fits : (n : ℕ) → n ≤ 30 → 2 ^ (3 * n) ≤ 2 ^ 90
+width_fits n within =
+    let two : 1 ≤ 2 = omega arith in
+    let places : 3 * n ≤ 90 = omega arith in
+    pow-le-pow_right two places
 
 -- at the opening angle 0 no cell passes
 pub none_passes_at_zero : (t : Criterion) (box : Bounds) (c : Octant) → 1 ≤ t.b → t.a ≡ 0 → Passes box c t → ⊥

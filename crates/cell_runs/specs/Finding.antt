@@ -1,5 +1,5 @@
 -- How cell runs are found one after another by the keys of positions.
-use Rattle.std.specs.Prelude.{◌≡◌, ℕ, zero, suc, ◌-◌, ◌/◌, ◌^◌, ◌<◌, ◌≤◌, ◌↔◌, List, length, Option, Some, None}
+use Rattle.std.specs.Prelude.{◌≡◌, ℕ, zero, suc, ◌+◌, ◌-◌, ◌*◌, ◌/◌, ◌^◌, ◌<◌, ◌≤◌, ◌↔◌, List, length, Option, Some, None}
 use Rattle.std.specs.Prelude.{slice_index_or}
 use Rattle.pf_geom.specs.declared.cell.TheConstants.{DEEPEST}
 use Rattle.pf_geom.specs.Position.{Position}
@@ -11,6 +11,12 @@ use Rattle.pf_model.specs.Interaction.{level_of}
 -- the cell at a level of the positions with a key
 abbrev pub cell_of_key : ℕ → ℕ → Octant
 cell_of_key key level = record { level = level; key = key / 8 ^ (DEEPEST - level) }
+
+-- the first key past the cell of a key at a level
+abbrev pub past_cell : ℕ → ℕ → ℕ
+past_cell key level =
+    let width = 8 ^ (DEEPEST - level) in
+    (key / width + 1) * width
 
 -- the place lies between cells: no first passing cell has positions on both sides of it
 abbrev pub IsBetweenCells : Criterion → Bounds → List Position → ℕ → Type 0

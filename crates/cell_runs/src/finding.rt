@@ -1,12 +1,12 @@
 ghost use Rattle.std.specs.Prelude.{◌≡◌, ℕ, ◌+◌, ◌-◌, ◌*◌, ◌/◌, ◌^◌, ◌<◌, ◌≤◌, ◌↔◌, All, List, IfSome, OnOk};
-ghost use Rattle.std.specs.Prelude.{length, map};
+ghost use Rattle.std.specs.Prelude.{length, map, slice_index_or};
 ghost use Rattle.std.specs.List.Sorted.{IsNonDecreasing};
 ghost use Rattle.pf_geom.specs.Position.{Position};
 ghost use Rattle.pf_geom.specs.Key.{morton_key};
 ghost use Rattle.pf_model.specs.Interaction.{level_of};
 ghost use Rattle.cell_runs.specs.CellRuns.{IsCellRun, AreCellRuns};
 ghost use Rattle.cell_runs.specs.Finding.{cell_of_key, IsBetweenCells, key_before, IsShared, NoSharedPasses};
-ghost use Rattle.cell_runs.specs.Finding.{IsCellFront, IsFront};
+ghost use Rattle.cell_runs.specs.Finding.{IsCellFront, IsFront, past_cell};
 
 use crate::cell_run::CellRun;
 use opening_test::LeastGaps;
@@ -165,6 +165,7 @@ fn key_at(key: u128, level: u32) -> u128
 // How many keys, from the first on, lie in its cell at a level, or one where there is no level.
 fn front(keys: &[u128], level: Option<u32>) -> usize
     requires some { 1 ≤ length keys.now }
+    requires keys { All (λ key. key < 2 ^ 90) keys.now }
     requires ascending { IsNonDecreasing keys.now }
     requires level { IfSome level (λ level. level ≤ DEEPEST) }
     ensures { IsFront keys.now level result }
@@ -178,10 +179,45 @@ fn front(keys: &[u128], level: Option<u32>) -> usize
 // How many keys, from the first on, lie in its cell at a level.
 fn cell_front(keys: &[u128], level: u32) -> usize
     requires some { 1 ≤ length keys.now }
+    requires keys { All (λ key. key < 2 ^ 90) keys.now }
     requires ascending { IsNonDecreasing keys.now }
     requires level { level ≤ DEEPEST }
     ensures { IsCellFront keys.now level result }
 {
-    let cell = key_at(keys[0], level);
-    keys.partition_point(|key| key_at(*key, level) == cell)
+    let past = key_past(keys[0], level);
+    let reach = reach_past(keys, past);
+    keys[..reach].partition_point(|key| *key < past)
+}
+
+// The first key past the cell of a key at a level.
+fn key_past(key: u128, level: u32) -> u128
+    requires key { key < 2 ^ 90 }
+    requires level { level ≤ DEEPEST }
+    ensures { result ≡ past_cell key level }
+{
+    let width = width_at(level);
+    key - (key & (width - 1)) + width
+}
+
+// How many keys a cell of a level has.
+fn width_at(level: u32) -> u128
+    requires { level ≤ DEEPEST }
+    ensures value { result ≡ 2 ^ (3 * (DEEPEST - level)) }
+    ensures fits { result ≤ 2 ^ 90 }
+{
+    1 << (3 * (DEEPEST - level))
+}
+
+// So many keys that none after them lies before `past`. Most cells have few, so twice as many are tried in turn.
+fn reach_past(keys: &[u128], past: u128) -> usize
+    requires some { 1 ≤ length keys.now }
+    ensures some { 1 ≤ result }
+    ensures within { result ≤ length keys.now }
+    ensures past { result < length keys.now → past ≤ slice_index_or keys.now result 0 }
+{
+    let mut reach = 1;
+    while reach < keys.len() && keys[reach] < past {
+        reach += reach.min(keys.len() - reach);
+    }
+    reach
 }
