@@ -1,7 +1,7 @@
 -- The particles of cells in a list that is in key order.
-use Rattle.std.proofs.Common.{◌≡◌, ℕ, zero, suc, ◌+◌, ◌-◌, ◌/◌, ◌^◌, ◌<◌, ◌≤◌, Bool, true, false, cond, not, List, length, get_or, inl, inr, refl, sym, subst, ◌∙◌, ap, arith, ltb}
+use Rattle.std.proofs.Common.{◌≡◌, ℕ, zero, suc, ◌+◌, ◌-◌, ◌/◌, ◌^◌, ◌<◌, ◌≤◌, Bool, true, false, cond, not, List, length, get_or, inl, inr, refl, sym, ◌∙◌, ap, arith, ltb}
 use Rattle.std.specs.List.{count_by, Contains}
-use Rattle.std.specs.List.Sorted.{IsPartitionedBy, IsPartitionPoint, IsNonDecreasingBy}
+use Rattle.std.specs.List.Sorted.{IsPartitionedBy, IsNonDecreasingBy}
 use Rattle.std.proofs.lemmas.Bool.{cases_lt, cases_order, ltb-true, ltb-false, lt-ltb, le-ltb, eqb-true, eq-eqb, ne_eqb, and_parts, and_from, and_right, not-true, not_from_false, both_ways}
 use Rattle.std.proofs.Math.Nat.{div-mul-le_self, pow-suc}
 use Rattle.std.proofs.lemmas.Nat.{le-div}
@@ -15,7 +15,7 @@ use Rattle.pf_model.specs.Group.{particles_in}
 use Rattle.morton_tree.specs.Tree.{IsInKeyOrder}
 use Rattle.morton_tree.specs.Spans.{at_span, span_of}
 use Rattle.morton_tree.proofs.TreeLemmas.{keys_ascend}
-use Rattle.morton_tree.proofs.SplitLemmas.{IsRunAfter, run_is_filter, counts_add, some_kept, point_is_count}
+use Rattle.morton_tree.proofs.SplitLemmas.{IsRunAfter, run_is_filter, counts_add, some_kept}
 
 -- the key of a particle's cell at a level
 abbrev pub key_at : ℕ → Particle → ℕ
@@ -105,17 +105,7 @@ span_end c js =
 pub some_members : (c : Octant) (js : List Particle) (j : Particle) → Contains js j → key_at c.level j ≡ c.key → 1 ≤ length (particles_in c js)
 some_members c js j there same = some_kept (is_member c) js there.0 j there.1 (ap (is_member c) there.2 ∙ member_from_key c j same)
 
--- where the searches for the two ends of a cell's span stop
-pub ends_are : (c : Octant) (js own : List Particle) (a b : ℕ) → js ≡ own → IsInKeyOrder own →
-    a ≤ length js → (IsPartitionedBy (is_below c) js → IsPartitionPoint (λ j. is_below c j ≡ true) (λ j. is_below c j ≡ false) js a) →
-    b ≤ length js → (IsPartitionedBy (is_not_above c) js → IsPartitionPoint (λ j. is_not_above c j ≡ true) (λ j. is_not_above c j ≡ false) js b) →
-    (a ≡ (span_of c own).first) × (b ≡ (span_of c own).first + (span_of c own).len)
-ends_are c js own a b same ordered a_within a_point b_within b_point =
-    let ordered' : IsInKeyOrder js = subst IsInKeyOrder (sym same) ordered in (
-      point_is_count (is_below c) js a a_within (a_point (below_first c js ordered')) ∙ ap (count_by (is_below c)) same,
-      point_is_count (is_not_above c) js b b_within (b_point (not_above_first c js ordered')) ∙ ap (count_by (is_not_above c)) same ∙ span_end c own,
-    )
-
+-- a span by its two ends
 pub span_from_ends : (c : Octant) (own : List Particle) (a b : ℕ) → a ≡ (span_of c own).first → b ≡ (span_of c own).first + (span_of c own).len → record { first = a; len = b - a } ≡ span_of c own
 span_from_ends c own a b first end =
     let len : b - a ≡ (span_of c own).len = omega arith in

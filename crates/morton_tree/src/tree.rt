@@ -18,11 +18,12 @@ use std::marker::Model;
 use std::thread::Threads;
 
 /// The octree of one rank without pointers: its bodies in the order of the Morton curve, so that each
-/// cell is a span of the list (Gargantini 1982; Warren and Salmon 1993). It keeps their keys and the bodies
-/// of the build, by which spans are found also after the bodies have moved.
+/// cell is a span of the list (Gargantini 1982; Warren and Salmon 1993). It keeps the keys of the build, by
+/// which spans are found also after the bodies have moved.
 #[derive(Drop)]
 pub struct Tree {
     keys: Vec<u128>,
+    // No code reads these after the build: clauses tell of them what cells hold.
     built: Vec<Body>,
     bodies: Vec<Body>,
     sums: Prefix,
