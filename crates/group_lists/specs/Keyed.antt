@@ -31,9 +31,16 @@ item_key item = morton_key (item_position item)
 abbrev pub item_sums : List Entry → List Totals
 item_sums items = map (λ k. moment_together (take k items)) (range_with_len 0 (length items + 1))
 
--- the items of an essential tree in the order of their keys, these keys, and the moments of the first items
-pub record IsKeyed (t : Criterion) (g : Division) (js : List Particle) (tree : Essential) (keys : List ℕ)
+-- the items at these places, of which each is one place of the items that were sent
+pub record ArePlaced (sent : List Entry) (places : List ℕ) (items : List Entry) : Type 0 where
+  pub each_once : IsPermutation (range_with_len 0 (length sent)) places
+  pub items_are : (item : Entry) → items ≡ map (λ k. slice_index_or sent k item) places
+
+-- the items of an essential tree in the order of their keys, these keys, the places at which they were sent, and the
+-- moments of the first items
+pub record IsKeyed (t : Criterion) (g : Division) (js : List Particle) (tree : Essential) (keys places : List ℕ)
     (sums : List Totals) : Type 0 where
+  pub placed : ArePlaced (essential_tree t g js tree.src tree.dst) places tree.items
   pub same_items : IsPermutation (essential_tree t g js tree.src tree.dst) tree.items
   pub few : length tree.items ≤ MOST_PARTICLES
   pub keyed : keys ≡ map item_key tree.items

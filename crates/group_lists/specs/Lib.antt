@@ -4,6 +4,8 @@ pub mod Keyed
 pub mod Pieces
 pub mod Gathering
 pub mod Whole
+pub mod Listing
+pub mod Indexed
 pub mod PieceLaws
 pub use Rattle.pf_model.specs.Particle
 pub use Rattle.pf_model.specs.Criterion

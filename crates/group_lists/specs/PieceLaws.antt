@@ -22,6 +22,7 @@ use Rattle.group_lists.specs.Gathering.{source_list}
 use Rattle.group_lists.specs.Keyed.{IsServed, item_position, items_at, IsPieceOfRun}
 use Rattle.group_lists.specs.Pieces.{HaveFewMembers, is_occupied}
 use Rattle.group_lists.specs.Runs.{HasEntriesOf}
+use Rattle.group_lists.specs.Indexed.{FitList}
 use Rattle.cell_runs.specs.declared.cell_run.CellRun.{CellRun}
 use Rattle.cell_runs.specs.CellRuns.{AreCellRuns}
 
@@ -74,3 +75,9 @@ ItemsMakePieces =
     ((pieces : List Entry) → AllZip (λ r e. IsPieceOfRun tree.items r r.level e) runs pieces →
     HasEntriesOf t box (particles_of g js tree.src) pieces ×
     (length pieces ≤ length (list_of t box (particles_of g js tree.src))))
+
+-- the items that were sent to a rank have their places in those entries of its groups' lists in which they lie
+abbrev pub ItemsLieByPlace : Type 0
+ItemsLieByPlace =
+    (t : Criterion) (g : Division) (js : List Particle) (tree : Essential) (box : Bounds) → AreBodies js →
+    IsServed g js tree.dst box → IsSentTo t g js tree.dst tree → FitList (list_of t box js) tree.items

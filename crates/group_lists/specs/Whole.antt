@@ -6,8 +6,10 @@ use Rattle.pf_model.specs.declared.limits.TheConstants.{MOST_PARTICLES}
 use Rattle.pf_model.specs.Particle.{Particle}
 use Rattle.morton_tree.specs.declared.span.Span.{Span}
 
--- a group as clauses see it: its particles, and its interaction list
+-- a group as clauses see it: where its particles stand in the tree of the build, its particles, and its
+-- interaction list
 pub record GroupList : Type 0 where
+  pub span : Span
   pub bodies : List Particle
   pub entries : List Entry
 

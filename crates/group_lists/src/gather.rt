@@ -1,22 +1,30 @@
 ghost use Rattle.std.specs.Prelude.{◌≡◌, ◌+◌, ◌*◌, ◌<◌, ◌≤◌, IfOk, OnOk, All, Contains, IsPermutation, [], length, map};
 ghost use Rattle.std.specs.Prelude.{slice_get, Some, sum_by};
+ghost use Rattle.std.specs.List.{AllZip};
 ghost use Rattle.pf_model.specs.Division.{rank_count};
 ghost use Rattle.pf_model.specs.Domains.{particles_of};
 ghost use Rattle.pf_model.specs.Interaction.{list_of};
+ghost use Rattle.pf_model.specs.EssentialTree.{essential_tree};
 ghost use Rattle.morton_tree.specs.Tree.{IsUnmoved};
 ghost use Rattle.morton_tree.specs.Spans.{at_span};
 ghost use Rattle.group_lists.specs.Gathering.{own_gathering, with_source, IsNewSource, IsGroupOf, IsWhole};
 ghost use Rattle.group_lists.specs.Gathering.{partial_list, gathered_count, source_count};
+ghost use Rattle.group_lists.specs.Listing.{IsSource};
+ghost use Rattle.group_lists.specs.Indexed.{IsKeptOf};
 
 use crate::absorbing::absorb_tree;
+use crate::item_index::ItemIndex;
+use crate::kept_source::KeptSource;
 use crate::keyed_tree::KeyedTree;
+use crate::laws::{groups_are_served, items_lie_by_place};
 use crate::listed::Listed;
 use crate::lists::Lists;
 use morton_tree::{Group, Tree};
 use pf_geom::DEEPEST;
 use pf_model::{
-    Body, Entry, EssTree, MOST_PARTICLES, Steps, Terms, Theta, all_ranks_have_all, lists_are_short,
-    lists_hold_their_entries, lists_ignore_order, one_rank_has_its_own,
+    Body, Entry, EssTree, MOST_PARTICLES, Steps, Terms, Theta, all_ranks_have_all,
+    distinct_ids_ignore_order, lists_are_short, lists_hold_their_entries, lists_ignore_order,
+    one_rank_has_its_own, some_have_distinct_ids,
 };
 use pf_num::OutOfMemory;
 use std::alloc::Global;
@@ -152,19 +160,52 @@ impl<T: Terms> Gather<T> {
     }
 
     /// The lists, when the particles of all ranks are in and they have at most `MOST_ENTRIES` together.
-    pub fn finish(self, _alloc: Global) -> Result<Lists, OutOfMemory>
+    pub fn finish(self, alloc: Global) -> Result<Lists, OutOfMemory>
         requires whole { IsWhole T.grid self }
         requires few { gathered_count T.theta T.grid T.particles self ≤ MOST_ENTRIES }
-        ensures bodies { IfOk result (λ lists. map (λ l. l.bodies) lists
+        ensures bodies { IfOk result (λ lists. map (λ l. l.bodies) lists.groups
             ≡ map (λ g. at_span g.span self.own) self.groups) }
-        ensures entries { IfOk result (λ lists. map (λ l. l.entries) lists
+        ensures entries { IfOk result (λ lists. map (λ l. l.entries) lists.groups
             ≡ map (λ g. list_of T.theta g.around T.particles) self.groups) }
+        ensures spans { IfOk result (λ lists. map (λ l. l.span) lists.groups ≡ map (λ g. g.span) self.groups) }
+        ensures built { IfOk result (λ lists. lists.built ≡ self.own) }
+        ensures own { IfOk result (λ lists. lists.own ≡ self.own) }
+        ensures sources { IfOk result (λ lists. AllZip (λ src s.
+            IsSource (essential_tree T.theta T.grid T.particles src self.rank) src s) self.absorbed lists.sources) }
     {
         lists_hold_their_entries();
         lists_are_short();
         all_ranks_have_all();
-        Ok(Lists::of(self.bodies, self.listed))
+        some_have_distinct_ids();
+        distinct_ids_ignore_order();
+        groups_are_served();
+        items_lie_by_place();
+        let index = ItemIndex::of_bodies(alloc, &self.bodies)?;
+        let sources = kept_sources(alloc, self.trees)?;
+        let own = self.bodies.to_vec(alloc)?;
+        Ok(Lists {
+            built: self.bodies,
+            own,
+            index,
+            listed: self.listed,
+            sources,
+        })
     }
+}
+
+// What is kept of the trees that were absorbed.
+fn kept_sources<T: Terms>(
+    alloc: Global,
+    trees: Vec<KeyedTree<T>>,
+) -> Result<Vec<KeptSource>, OutOfMemory>
+    ensures each { IfOk result (λ sources. AllZip (λ tree s. IsKeptOf T.theta T.grid T.particles tree s)
+        trees.items sources.items) }
+{
+    let mut sources = Vec::with_capacity(alloc, trees.len())?;
+    for tree in trees {
+        sources.push(tree.kept(alloc)?)?;
+    }
+    Ok(sources)
 }
 
 // The lists of groups over the bodies of a tree, and how long they are together.

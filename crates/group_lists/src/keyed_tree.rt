@@ -8,24 +8,30 @@ ghost use Rattle.pf_model.specs.Sufficiency.{entry_moment, moment_together};
 ghost use Rattle.cell_runs.specs.Finding.{cell_of_key};
 ghost use Rattle.group_lists.specs.Gathering.{IsSentTo};
 ghost use Rattle.group_lists.specs.Keyed.{item_position, item_key, item_sums};
+ghost use Rattle.group_lists.specs.Indexed.{IsKeptOf};
 
+use crate::item_index::ItemIndex;
+use crate::kept_source::KeptSource;
+use crate::key_order::{items_in_order, key_order, places_of};
 use pf_geom::{Cell, DEEPEST, corner, key_of};
 use pf_model::{
-    Entry, EssTree, MOST_PARTICLES, Moment, Terms, lists_are_short, lists_merge,
-    some_have_distinct_ids,
+    Entry, EssTree, MOST_PARTICLES, Moment, Terms, lists_are_short, lists_hold_their_entries,
+    lists_merge, some_have_distinct_ids,
 };
 use pf_num::OutOfMemory;
 use std::alloc::Global;
 use std::marker::{Model, PhantomData};
 
 // An essential tree with its items in the order of the Morton curve, so that those in a cell stand together, the
-// keys by which they are found, and the moments of the first items for each count of them.
+// keys by which they are found, the places at which they were sent, and the moments of the first items for each count
+// of them.
 #[derive(Drop)]
 pub(crate) struct KeyedTree<T: Terms> {
     pub src: u32,
     pub dst: u32,
     pub items: Vec<Entry>,
     pub keys: Vec<u128>,
+    pub places: Vec<u32>,
     pub sums: Vec<Moment>,
     pub terms: PhantomData<T>,
 }
@@ -39,7 +45,7 @@ impl<T: Terms> Model for KeyedTree<T> {
     ghost view = { λ t. record { src = t.src; dst = t.dst; items = t.items.items } };
 
     ghost invariant = { λ t. IsKeyed T.theta T.grid T.particles
-        (record { src = t.src; dst = t.dst; items = t.items.items }) t.keys.items t.sums.items };
+        (record { src = t.src; dst = t.dst; items = t.items.items }) t.keys.items t.places.items t.sums.items };
 }
 
 impl<T: Terms> KeyedTree<T> {
@@ -51,17 +57,34 @@ impl<T: Terms> KeyedTree<T> {
         lists_are_short();
         lists_merge();
         some_have_distinct_ids();
-        let mut items = tree.items;
-        items.sort_by_cached_key(|item| item_key(item))?;
+        let order = key_order(alloc, &tree.items)?;
+        let items = items_in_order(alloc, &tree.items, &order)?;
         let keys = keys_of(alloc, &items)?;
+        let places = places_of(alloc, &order)?;
         let sums = sums_of(alloc, &items)?;
         Ok(KeyedTree {
             src: tree.src,
             dst: tree.dst,
             items,
             keys,
+            places,
             sums,
             terms: PhantomData,
+        })
+    }
+
+    // What is kept of the tree when all lists are whole.
+    pub fn kept(self, alloc: Global) -> Result<KeptSource, OutOfMemory>
+        ensures { IfOk result (IsKeptOf T.theta T.grid T.particles self) }
+    {
+        lists_hold_their_entries();
+        some_have_distinct_ids();
+        let index = ItemIndex::of_items(alloc, self.keys, &self.items)?;
+        Ok(KeptSource {
+            src: self.src,
+            items: self.items,
+            places: self.places,
+            index,
         })
     }
 
@@ -105,7 +128,7 @@ pub(crate) fn cell_key(key: u128, level: u32) -> u128
 }
 
 // The key of an item: that of the corner of its cell, or of the particle.
-fn item_key(item: &Entry) -> u128
+pub(crate) fn item_key(item: &Entry) -> u128
     ensures value { result ≡ item_key item.now }
     ensures fits { result < 2 ^ 90 }
 {

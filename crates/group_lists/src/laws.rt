@@ -2,7 +2,7 @@
 // law calls its function.
 
 ghost use Rattle.group_lists.specs.PieceLaws.{PiecesMakeLists, PiecesAreInOrder, CommonPiecesAreOccupied};
-ghost use Rattle.group_lists.specs.PieceLaws.{GroupsAreServed, ItemsMakePieces};
+ghost use Rattle.group_lists.specs.PieceLaws.{GroupsAreServed, ItemsMakePieces, ItemsLieByPlace};
 
 use cell_runs::{runs_hold_each_place, runs_rise};
 use pf_geom::{
@@ -82,4 +82,19 @@ pub(crate) fn items_make_pieces()
     moments_keep_their_limits();
     runs_hold_each_place();
     runs_rise();
+}
+
+// An item has its place in an entry exactly where it lies in it.
+pub(crate) fn items_lie_by_place()
+    ensures { ItemsLieByPlace }
+{
+    cells_pass_for_boxes_inside();
+    cells_of_a_position_nest();
+    corners_lie_inside();
+    positions_share_lower_cells();
+    positions_have_cells();
+    levels_are_least();
+    lists_hold_their_entries();
+    lists_hold_first_cells();
+    some_have_distinct_ids();
 }

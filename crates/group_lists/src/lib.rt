@@ -4,11 +4,16 @@
 #![tactic(auto)]
 
 mod absorbing;
+mod changing;
 mod gather;
+mod item_index;
+mod kept_source;
+mod key_order;
 mod keyed_tree;
 mod laws;
 mod listed;
 mod lists;
+mod members;
 mod merging;
 mod occupied;
 mod ordering;
