@@ -1,5 +1,6 @@
 ghost use Rattle.std.specs.Prelude.{◌≡◌, ◌<◌, ◌≤◌, List, Some, All, IfOk, OnOk, IfErr, length, map};
 ghost use Rattle.pf_model.specs.declared.entry.Entry.{Entry as ListEntry};
+ghost use Rattle.group_lists.specs.Whole.{GroupList};
 ghost use Rattle.kern_types.specs.Declarations.{forces_of};
 ghost use Rattle.run_model.specs.Force.{force_fault};
 ghost use Rattle.force_phase.specs.Forces.{AreForces};
@@ -41,8 +42,8 @@ pub enum Outcome {
 
 /// Room for the forces on a group.
 pub fn out_for(alloc: Global, t: &Typed, lists: &Lists, group: u32) -> Result<GroupOut, OutOfMemory>
-    requires { group < length lists.now }
-    ensures { IfOk result (IsOutFor t.now lists.now group) }
+    requires { group < length lists.now.groups }
+    ensures { IfOk result (IsOutFor t.now lists.now.groups group) }
 {
     parsed_kernels_keep_limits();
     let _kernel = kernel(t);
@@ -74,13 +75,13 @@ pub fn evaluate(
     work: &mut Work,
     out: &mut GroupOut,
 ) -> Outcome
-    requires group { group < length lists.now }
+    requires group { group < length lists.now.groups }
     requires work { IsWorkFor t.now work.old }
-    requires out { IsOutFor t.now lists.now group out.old }
+    requires out { IsOutFor t.now lists.now.groups group out.old }
     ensures work { IsWorkFor t.now work.new }
     ensures edge { work.new.edge ≡ work.old.edge }
-    ensures out { IsOutFor t.now lists.now group out.new }
-    ensures outcome { IsOutcomeAt work.old.edge t.now lists.now group out.new.rows.items result }
+    ensures out { IsOutFor t.now lists.now.groups group out.new }
+    ensures outcome { IsOutcomeAt work.old.edge t.now lists.now.groups group out.new.rows.items result }
 {
     let _entries = lists.entries(group);
     evaluate_all(
@@ -111,8 +112,8 @@ fn evaluate_all(
     ensures ready { IsReady t.now work.new.scratch work.new.targets.items (length work.new.tallies.items) }
     ensures rows { length rows.new ≡ length rows.old }
     ensures widths { All (λ row. length row ≡ rules.row_width (forces_of t.now.decls)) rows.new }
-    ensures outcome { (entries : List ListEntry) → partners.now ≡ map partner_of entries
-        → IsOutcome edge t.now (record { bodies = bodies.now; entries = entries }) rows.new result }
+    ensures outcome { (g : GroupList) → partners.now ≡ map partner_of g.entries
+        → IsOutcome edge t.now (record g { bodies = bodies.now }) rows.new result }
 {
     let mut least = None;
     for k in 0..bodies.len() {

@@ -16,8 +16,8 @@ pub(crate) fn group_count<H: HasLists>(lists: &[H]) -> Option<u32>
 /// The lists that have the group of this number, and its number among them. Groups are numbered over the ranks.
 pub(crate) fn group_of<H: HasLists>(lists: &[H], number: u32) -> (&Lists, u32)
     requires { number < length (flat_map H.has lists.now) }
-    ensures within { result.1 < length result.0.now }
-    ensures same { slice_get result.0.now result.1 ≡ slice_get (flat_map H.has lists.now) number }
+    ensures within { result.1 < length result.0.now.groups }
+    ensures same { slice_get result.0.now.groups result.1 ≡ slice_get (flat_map H.has lists.now) number }
 {
     let mut left = number;
     for has in lists {

@@ -92,11 +92,11 @@ fn add_group(
     work: &mut Work,
     found: &mut Found,
 ) -> Result<(), OutOfMemory>
-    requires group { group < length lists.now }
+    requires group { group < length lists.now.groups }
     requires work { IsWorkFor t.now work.old }
     ensures work { IsWorkFor t.now work.new }
     ensures edge { work.new.edge ≡ work.old.edge }
-    ensures found { OnOk result ((g : GroupList) (before : List GroupList) → slice_get lists.now group ≡ Some g
+    ensures found { OnOk result ((g : GroupList) (before : List GroupList) → slice_get lists.now.groups group ≡ Some g
         → IsFoundIn work.old.edge t.now before found.old
         → IsFoundIn work.old.edge t.now (before ++ g ∷ []) found.new) }
 {

@@ -77,6 +77,26 @@ leads_to_none : (t : Criterion) (box : Bounds) (js : List Particle) (j p : Parti
 leads_to_none t box js j p None e = refl
 leads_to_none t box js j p (Some level) e = absurd (one_is_no_cell p (cell_at j.at level) _ (sym e))
 
+module _ (positions : PositionLaws) (nest : CellsOfAPositionNest) (t : Criterion) (inner outer : Bounds) (nested : AreNested inner outer) (js : List Particle) where
+  -- whether an item lies in a cell, and whether it has its place there
+  pub lies_here : (j : Particle) (o : Option ℕ) → level_of t outer j.at ≡ o → (level : ℕ) (c : Octant) (m : Totals) → NonePassesBelow t inner j.at level → c.level ≡ level → cell_at j.at level ≡ c → lies_in (entry_at t outer js j o) (Cell c m) ≡ true
+  lies_here j None e level c m lowest level_is there = octant_same c (cell_at j.at c.level) (ap (cell_at j.at) level_is ∙ there)
+  lies_here j (Some deep) e level c m lowest level_is there =
+      elim (cases_lt deep level) [
+        | inl less ↦ absurd (lowest deep less (passes_inner positions t inner outer nested js j deep e))
+        | inr more ↦
+            let up : ancestor_at (cell_at j.at deep) c.level ≡ c = ap (ancestor_at (cell_at j.at deep)) level_is ∙ nest j.at level deep more (is_deep positions t inner outer nested js j deep e) ∙ there in
+            and_from _ _ (le-leb c.level deep (omega arith)) (octant_same c (ancestor_at (cell_at j.at deep) c.level) up)
+      ]
+
+  pub place_here : (j : Particle) (o : Option ℕ) → level_of t outer j.at ≡ o → (c : Octant) (m : Totals) → lies_in (entry_at t outer js j o) (Cell c m) ≡ true → cell_at (item_position (entry_at t outer js j o)) c.level ≡ c
+  place_here j None e c m lies = same_octant c (cell_at j.at c.level) lies
+  place_here j (Some deep) e c m lies =
+      let order : c.level ≤ deep = leb-true c.level deep (and_parts _ _ lies).0 in
+      let up = same_octant c (ancestor_at (cell_at j.at deep) c.level) (and_parts _ _ lies).1 in
+      let deep_is = is_deep positions t inner outer nested js j deep e in
+      positions.share _ j.at c.level deep order deep_is (corner_in positions t inner outer nested js j deep e) ∙ sym (nest j.at c.level deep order deep_is) ∙ up
+
 module _ (laws : ItemLaws) (t : Criterion) (inner outer : Bounds) (nested : AreNested inner outer) (js : List Particle) (distinct : HaveDistinctIds js) (items : List Entry) (same : IsPermutation (list_of t outer js) items) where
   -- the particle of the item at a place
   item_from : (k : ℕ) (d : Entry) → k < length items → (j : Particle) × Contains js j × (get_or items k d ≡ entry_of t outer js j)
@@ -87,25 +107,6 @@ module _ (laws : ItemLaws) (t : Criterion) (inner outer : Bounds) (nested : AreN
 
   abbrev places : List Position
   places = map item_position items
-
-  -- whether an item lies in a cell, and whether it has its place there
-  lies_here : (j : Particle) (o : Option ℕ) → level_of t outer j.at ≡ o → (level : ℕ) (c : Octant) (m : Totals) → NonePassesBelow t inner j.at level → c.level ≡ level → cell_at j.at level ≡ c → lies_in (entry_at t outer js j o) (Cell c m) ≡ true
-  lies_here j None e level c m lowest level_is there = octant_same c (cell_at j.at c.level) (ap (cell_at j.at) level_is ∙ there)
-  lies_here j (Some deep) e level c m lowest level_is there =
-      elim (cases_lt deep level) [
-        | inl less ↦ absurd (lowest deep less (passes_inner laws.positions t inner outer nested js j deep e))
-        | inr more ↦
-            let up : ancestor_at (cell_at j.at deep) c.level ≡ c = ap (ancestor_at (cell_at j.at deep)) level_is ∙ laws.nest j.at level deep more (is_deep laws.positions t inner outer nested js j deep e) ∙ there in
-            and_from _ _ (le-leb c.level deep (omega arith)) (octant_same c (ancestor_at (cell_at j.at deep) c.level) up)
-      ]
-
-  place_here : (j : Particle) (o : Option ℕ) → level_of t outer j.at ≡ o → (c : Octant) (m : Totals) → lies_in (entry_at t outer js j o) (Cell c m) ≡ true → cell_at (item_position (entry_at t outer js j o)) c.level ≡ c
-  place_here j None e c m lies = same_octant c (cell_at j.at c.level) lies
-  place_here j (Some deep) e c m lies =
-      let order : c.level ≤ deep = leb-true c.level deep (and_parts _ _ lies).0 in
-      let up = same_octant c (ancestor_at (cell_at j.at deep) c.level) (and_parts _ _ lies).1 in
-      let deep_is = is_deep laws.positions t inner outer nested js j deep e in
-      laws.positions.share _ j.at c.level deep order deep_is (corner_in laws.positions t inner outer nested js j deep e) ∙ sym (laws.nest j.at c.level deep order deep_is) ∙ up
 
   -- a run of items
   module _ (r : CellRun) (run : IsCellRun t inner places r) where
@@ -159,7 +160,7 @@ module _ (laws : ItemLaws) (t : Criterion) (inner outer : Bounds) (nested : AreN
           let from = item_from k d within in
           let j = from.0 in
           let mine = particle_level k d j place from.2 ∙ level_is in
-          let here = lies_here j (level_of t outer j.at) refl level run_cell m (lowest_of j mine) refl (particle_cell k j place from.2) in
+          let here = lies_here laws.positions laws.nest t inner outer nested js j (level_of t outer j.at) refl level run_cell m (lowest_of j mine) refl (particle_cell k j place from.2) in
           ap (λ (f : Entry). lies_in f (Cell run_cell m)) (get_or_default items k e d within ∙ from.2) ∙ here
 
       place_from : (m : Totals) (k : ℕ) (e : Entry) → k < length items → lies_in (get_or items k e) (Cell run_cell m) ≡ true → IsPlaceOf r k
@@ -168,7 +169,7 @@ module _ (laws : ItemLaws) (t : Criterion) (inner outer : Bounds) (nested : AreN
           let j = from.0 in
           let p = item_position d in
           let inside : k < length places = (let long = length-map items item_position in omega arith) in
-          let at = place_here j (level_of t outer j.at) refl run_cell m (ap (λ (f : Entry). lies_in f (Cell run_cell m)) (sym from.2) ∙ lies) in
+          let at = place_here laws.positions laws.nest t inner outer nested js j (level_of t outer j.at) refl run_cell m (ap (λ (f : Entry). lies_in f (Cell run_cell m)) (sym from.2) ∙ lies) in
           let there : cell_at (get_or places k p) level ≡ cell_at (get_or places r.first p) level =
           ap (λ (q : Position). cell_at q level) (place_at k e p within) ∙ ap (λ (f : Entry). cell_at (item_position f) level) from.2 ∙ at ∙ ap (λ (q : Position). cell_at q level) (sym (place_at r.first d p first_within)) in
           (whole_is k p inside).1 there

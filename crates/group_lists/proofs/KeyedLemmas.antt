@@ -1,8 +1,8 @@
 -- The keys of items and bodies, and the sums over the first items.
 use Rattle.std.proofs.Common.{◌≡◌, ℕ, zero, suc, ◌+◌, ◌-◌, ◌*◌, ◌/◌, ◌^◌, ◌<◌, ◌≤◌, Bool, true, false, List, [], ◌∷◌, ◌++◌, length, get_or, map, take, drop, inl, inr, refl, sym, ◌∙◌, ap, arith, ltb, eqb, ℤ, ◌+ℤ◌}
 use Rattle.std.specs.List.{range_with_len}
-use Rattle.std.specs.List.Sorted.{IsNonDecreasing, IsNonDecreasingBy}
-use Rattle.std.proofs.lemmas.List.{take_more, take-append-drop, length-map, get_or-map}
+use Rattle.std.specs.List.Sorted.{IsNonDecreasingBy}
+use Rattle.std.proofs.lemmas.List.{take_more, take-append-drop}
 use Rattle.std.proofs.lemmas.List.FromFn.{map-range_with_len_more, length-map-range_with_len, get_or-map-range_with_len}
 use Rattle.std.proofs.Math.Seq.{take-add}
 use Rattle.std.proofs.Math.Nat.{pow-suc, div-mul-le_self}
@@ -18,7 +18,6 @@ use Rattle.pf_model.specs.Sums.{moment_of, together, pairwise_sums, IsRest}
 use Rattle.pf_model.specs.Interaction.{is_cell}
 use Rattle.pf_model.specs.Sufficiency.{entry_moment, moment_together}
 use Rattle.morton_tree.specs.Tree.{IsInKeyOrder}
-use Rattle.group_lists.specs.Keyed.{item_key}
 use Rattle.group_lists.proofs.SearchLemmas.{StandFirst}
 
 pub eight_pow : (n : ℕ) → 2 ^ (3 * n) ≡ 8 ^ n
@@ -157,21 +156,6 @@ first_sums items n = map (λ k. moment_together (take k items)) (range_with_len 
 pub sums_more : (items : List Entry) (n : ℕ) (ms : List Totals) (m : Totals) → ms ≡ first_sums items n → m ≡ moment_together (take n items) → ms ++ m ∷ [] ≡ first_sums items (n + 1)
 sums_more items n ms m ms_are m_is =
     ap (λ (l : List Totals). l ++ m ∷ []) ms_are ∙ ap (λ (t : Totals). first_sums items n ++ t ∷ []) m_is ∙ sym (map-range_with_len_more (λ k. moment_together (take k items)) 0 n n (omega arith))
-
--- the keys of items in their order ascend
-pub keys_ascend : (items : List Entry) (keys : List ℕ) → keys ≡ map item_key items → IsNonDecreasingBy item_key items → IsNonDecreasing keys
-keys_ascend items keys keyed up i j d least within =
-    let inside : j < length items = (let long = length-map items item_key in let same = ap length keyed in omega arith) in
-    let inner : i < length items = omega arith in
-    elim items as (λ its. (keys ≡ map item_key its) → IsNonDecreasingBy item_key its → j < length its → get_or keys i d ≤ get_or keys j d) [
-      | [] ↦ λ e u l. absurd (omega arith)
-      | x ∷ xs ↦ λ e u l.
-          let at : (k : ℕ) → k < length (x ∷ xs) → get_or keys k d ≡ item_key (get_or (x ∷ xs) k x) = λ k less. ap (λ (ks : List ℕ). get_or ks k d) e ∙ get_or-map item_key (x ∷ xs) k x d less in
-          let rise = u i j x least l in
-          let low = at i (omega arith) in
-          let high = at j l in
-          omega arith
-    ] keyed up inside
 
 pub sums_long : (items : List Entry) (sums : List Totals) → sums ≡ first_sums items (length items + 1) → length sums ≡ length items + 1
 sums_long items sums is = ap (λ (ms : List Totals). length ms) is ∙ length-map-range_with_len (λ k. moment_together (take k items)) 0 (length items + 1)

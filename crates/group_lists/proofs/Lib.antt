@@ -12,3 +12,8 @@ pub mod GatherLemmas
 pub mod AbsorbLemmas
 pub mod PieceRunLemmas
 pub mod ItemLemmas
+pub mod PlacedLemmas
+pub mod IndexLemmas
+pub mod PlaceLemmas
+pub mod ListsLemmas
+pub mod FinishLemmas

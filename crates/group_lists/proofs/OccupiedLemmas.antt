@@ -45,7 +45,7 @@ count_agree p q (x ∷ xs) h =
     let rest = count_agree p q xs (λ y i. h y (suc i.0, (let within : i.0 < length xs = i.1 in omega arith), i.2)) in
     sum_by-cons _ x xs ∙ (λ k. cond (here k) 1 0 + rest k) ∙ sym (sum_by-cons _ x xs)
 
-same_from_both : (a b : Bool) → (a ≡ true → b ≡ true) → (b ≡ true → a ≡ true) → a ≡ b
+pub same_from_both : (a b : Bool) → (a ≡ true → b ≡ true) → (b ≡ true → a ≡ true) → a ≡ b
 same_from_both true true h k = refl
 same_from_both true false h k = sym (h refl)
 same_from_both false true h k = k refl
@@ -92,7 +92,7 @@ passes_kept : {X : Type 0} (test : X → Bool) (xs : List X) (x : X) → Contain
 passes_kept test xs x h = All-contains (λ y. test y ≡ true) (filter test xs) x (filter_passes test xs) h
 
 -- what a list seen through a function has
-mapped_from : {X Y : Type 0} (h : X → Y) (xs : List X) (y : Y) → Contains (map h xs) y → (x : X) × Contains xs x × (h x ≡ y)
+pub mapped_from : {X Y : Type 0} (h : X → Y) (xs : List X) (y : Y) → Contains (map h xs) y → (x : X) × Contains xs x × (h x ≡ y)
 mapped_from h [] y i = absurd (omega (arith, i.1))
 mapped_from h (x ∷ xs) y i =
     elim (head_or_rest (h x) (map h xs) y i) [
@@ -100,15 +100,15 @@ mapped_from h (x ∷ xs) y i =
       | inr k ↦ (let rest = mapped_from h xs y k in (rest.0, contains_more x xs rest.0 rest.1, rest.2))
     ]
 
-mapped_in : {X Y : Type 0} (h : X → Y) (xs : List X) (x : X) → Contains xs x → Contains (map h xs) (h x)
+pub mapped_in : {X Y : Type 0} (h : X → Y) (xs : List X) (x : X) → Contains xs x → Contains (map h xs) (h x)
 mapped_in h xs x i = (i.0, (let within : i.0 < length xs = i.1 in let long = length-map xs h in omega arith), get_or-map h xs i.0 x (h x) i.1 ∙ ap h i.2)
 
 -- the cell of an entry is a cell
-abbrev IsCellEntry : Entry → Type 0
+abbrev pub IsCellEntry : Entry → Type 0
 IsCellEntry (Cell c m) = IsCell c
 IsCellEntry (One p) = Unit {0}
 
-cell_entry : PositionLaws → (t : Criterion) (box : Bounds) (js : List Particle) (j : Particle) (o : Option ℕ) → level_of t box j.at ≡ o → IsCellEntry (entry_at t box js j o)
+pub cell_entry : PositionLaws → (t : Criterion) (box : Bounds) (js : List Particle) (j : Particle) (o : Option ℕ) → level_of t box j.at ≡ o → IsCellEntry (entry_at t box js j o)
 cell_entry laws t box js j None e = tt
 cell_entry laws t box js j (Some level) e = laws.cells j.at level (((laws.levels t box j.at).1 level).0 e).within
 

@@ -43,9 +43,9 @@ pub record AreMade (t : Criterion) (g : Division) (js : List Particle) (tree : E
   pub limits : All (IsLimited tree.items) runs
   pub pieces : (pieces : List Entry) → AllZip (λ r e. IsPieceOfRun tree.items r r.level e) runs pieces → HasEntriesOf t box (particles_of g js tree.src) pieces × (length pieces ≤ length (list_of t box (particles_of g js tree.src)))
 
-pub runs_are_made : ItemsMakePieces → (t : Criterion) (g : Division) (js : List Particle) (tree : Essential) (box : Bounds) (keys : List ℕ) (sums : List Totals) (runs : List CellRun) → AreBodies js → All IsParticle js → IsServed g js tree.dst box → IsKeyed t g js tree keys sums →
+pub runs_are_made : ItemsMakePieces → (t : Criterion) (g : Division) (js : List Particle) (tree : Essential) (box : Bounds) (keys places : List ℕ) (sums : List Totals) (runs : List CellRun) → AreBodies js → All IsParticle js → IsServed g js tree.dst box → IsKeyed t g js tree keys places sums →
     ((ps : List Position) → keys ≡ map morton_key ps → AreCellRuns t box ps runs) → AreMade t g js tree box runs
-runs_are_made law t g js tree box keys sums runs bodies particles served keyed found =
+runs_are_made law t g js tree box keys places sums runs bodies particles served keyed found =
     let are = found (map item_position tree.items) (keyed.keyed ∙ sym (map-map morton_key item_position tree.items)) in
     let made = law t g js tree box runs bodies particles served (record { here = refl; items = keyed.same_items }) are in
     record {
@@ -54,7 +54,7 @@ runs_are_made law t g js tree box keys sums runs bodies particles served keyed f
       pieces = made.1;
     }
 
-AllZip-push2 : {A B : Type 0} (R : A → B → Type 0) (xs : List A) (ys : List B) (x : A) (y : B) → AllZip R xs ys → R x y → AllZip R (xs ++ x ∷ []) (ys ++ y ∷ [])
+pub AllZip-push2 : {A B : Type 0} (R : A → B → Type 0) (xs : List A) (ys : List B) (x : A) (y : B) → AllZip R xs ys → R x y → AllZip R (xs ++ x ∷ []) (ys ++ y ∷ [])
 AllZip-push2 R [] [] x y all h = (h, tt)
 AllZip-push2 R [] (b ∷ bs) x y all h = absurd all
 AllZip-push2 R (a ∷ others) [] x y all h = absurd all

@@ -1,7 +1,7 @@
 -- How items that stand in key order are found: by the key of a cell, or by the id of a particle.
-use Rattle.std.specs.Prelude.{◌≡◌, ℕ, ◌<◌, ◌≤◌, Bool, ⊤, List, length, map, Some, Contains, IsPermutation, slice_get}
+use Rattle.std.specs.Prelude.{◌≡◌, ℕ, ◌≤◌, Bool, List, length, map, Some, Contains, IsPermutation, slice_get}
 use Rattle.std.specs.List.{range_with_len}
-use Rattle.std.specs.List.Sorted.{IsNonDecreasing}
+use Rattle.std.specs.List.Sorted.{IsNonDecreasing, IsNonDecreasingBy}
 use Rattle.pf_geom.specs.Octant.{cell_at}
 use Rattle.pf_model.specs.declared.entry.Entry.{Entry}
 use Rattle.pf_model.specs.declared.entry.Entry.TheVariants.{Cell, One}
@@ -31,7 +31,7 @@ IsParticleAt items i = (p : Particle) × (slice_get items i.place ≡ Some (One 
 
 -- for each particle among items its id and its place, by ascending id
 pub record AreIdsOf (items : List Entry) (ids : List IdPlace) : Type 0 where
-  pub ascending : IsNonDecreasing (map (λ i. i.id) ids)
+  pub ascending : IsNonDecreasingBy (λ i. i.id) ids
   pub sound : (i : IdPlace) → Contains ids i → IsParticleAt items i
   pub complete : (k : ℕ) (p : Particle) → slice_get items k ≡ Some (One p) → Contains ids (record { id = p.id; place = k })
 

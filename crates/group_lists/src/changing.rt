@@ -29,9 +29,9 @@ impl Lists {
         listed.entries[place as usize] = Entry::One(body);
     }
 
-    /// Gives the groups the own bodies anew: those of the tree, with the same ids in the same order.
+    /// Gives the groups the own bodies anew: those of the build, with the same ids in the same order.
     pub fn set_own(&mut self, own: &[Body])
-        requires { map (λ j. j.id) own.now ≡ map (λ j. j.id) self.old.own }
+        requires { map (λ j. j.id) own.now ≡ map (λ j. j.id) self.old.built }
         ensures { self.new ≡ with_own own.now self.old }
     {
         self.own.copy_from_slice(own);

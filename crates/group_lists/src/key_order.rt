@@ -1,6 +1,6 @@
 ghost use Rattle.std.specs.Prelude.{◌≡◌, ◌<◌, ◌≤◌, IfOk, All, IsPermutation, length, map, slice_index_or};
 ghost use Rattle.std.specs.List.{range_with_len};
-ghost use Rattle.std.specs.List.Sorted.{IsNonDecreasing};
+ghost use Rattle.std.specs.List.Sorted.{IsNonDecreasingBy};
 ghost use Rattle.pf_model.specs.declared.entry.Entry.{Entry};
 ghost use Rattle.group_lists.specs.Keyed.{item_key};
 
@@ -21,9 +21,10 @@ pub(crate) fn key_order(alloc: Global, items: &[Entry]) -> Result<Vec<KeyPlace>,
     requires { length items.now ≤ MOST_PARTICLES }
     ensures each_once { IfOk result (λ order.
         IsPermutation (range_with_len 0 (length items.now)) (map (λ o. o.place) order.items)) }
+    ensures within { IfOk result (λ order. All (λ o. o.place < length items.now) order.items) }
     ensures keyed { IfOk result (λ order. All (λ o. (item : Entry) →
         o.key ≡ item_key (slice_index_or items.now o.place item)) order.items) }
-    ensures ascending { IfOk result (λ order. IsNonDecreasing (map (λ o. o.key) order.items)) }
+    ensures ascending { IfOk result (λ order. IsNonDecreasingBy (λ o. o.key) order.items) }
 {
     let mut order = Vec::with_capacity(alloc, items.len())?;
     for (place, item) in items.iter().enumerate() {

@@ -1,4 +1,4 @@
-ghost use Rattle.std.specs.Prelude.{◌≡◌, ◌<◌, Some, length, map, filter, slice_get, IsPermutation};
+ghost use Rattle.std.specs.Prelude.{◌≡◌, ◌<◌, ◌≤◌, Some, length, map, filter, slice_get, IsPermutation};
 ghost use Rattle.std.specs.List.{range_with_len};
 ghost use Rattle.pf_model.specs.Sufficiency.{lies_in, items_in};
 ghost use Rattle.morton_tree.specs.Spans.{at_span};
@@ -6,6 +6,7 @@ ghost use Rattle.group_lists.specs.Listing.{OfGroup, OfEntry, OfSource, IsSpanOf
 
 use crate::lists::Lists;
 use morton_tree::Span;
+use pf_model::MOST_PARTICLES;
 
 impl Lists {
     /// Where the own bodies stand, in the tree of the build, that lie in an entry: the one at a place of a group's list.
@@ -40,6 +41,7 @@ impl Lists {
         requires { source < length self.now.sources }
         ensures value { slice_get (map (λ s. s.places) self.now.sources) source ≡ Some result.now }
         ensures each_once { IsPermutation (range_with_len 0 (length result.now)) result.now }
+        ensures few { length result.now ≤ MOST_PARTICLES }
         ensures items { OfSource self.now.sources source (λ s. length s.items ≡ length result.now) }
     {
         &self.sources[source].places

@@ -188,17 +188,17 @@ module _ (laws : Laws) (u : Setup) (js : List Particle) (rank : ℕ) (gather : G
       ∙ length-flat_map (group_list u.theta js) (groups_of_rank u.group u.grid js rank)
 
   module _ (r : RankLists) (finished : IsFinished u.theta u.grid js gather r) where
-    pub own_bodies : IsPermutation (particles_of u.grid js rank) (flat_map (λ l. l.bodies) r.lists)
-    own_bodies = subst (IsPermutation (particles_of u.grid js rank)) (sym (bodies_are gather.own gather.groups r.lists has.groups.in_turn finished.bodies)) has.groups.same
+    pub own_bodies : IsPermutation (particles_of u.grid js rank) (flat_map (λ l. l.bodies) r.lists.groups)
+    own_bodies = subst (IsPermutation (particles_of u.grid js rank)) (sym (bodies_are gather.own gather.groups r.lists.groups has.groups.in_turn finished.bodies)) has.groups.same
 
-    rank_all_entries : all_entries r.lists ≡ lists_of u js rank
+    rank_all_entries : all_entries r.lists.groups ≡ lists_of u js rank
     rank_all_entries =
-        joined_from_maps (λ (l : GroupList). l.entries) (λ (g : Group). list_of u.theta g.around js) r.lists gather.groups finished.entries ∙ rank_lists
+        joined_from_maps (λ (l : GroupList). l.entries) (λ (g : Group). list_of u.theta g.around js) r.lists.groups gather.groups finished.entries ∙ rank_lists
 
-    group_number : length r.lists ≡ length (groups_of_rank u.group u.grid js rank)
+    group_number : length r.lists.groups ≡ length (groups_of_rank u.group u.grid js rank)
     unfolding own_particles
     group_number =
-        sym (length-map r.lists (λ (l : GroupList). l.bodies)) ∙ ap length finished.bodies
+        sym (length-map r.lists.groups (λ (l : GroupList). l.bodies)) ∙ ap length finished.bodies
         ∙ length-map gather.groups (λ (g : Group). at_span g.span gather.own) ∙ ap length has.groups.value
         ∙ length-map (group_cells u.group gather.own) (group_in gather.own)
         ∙ ap length (sym (laws.groups u.group own_particles gather.own has.groups.same).1)
@@ -222,20 +222,20 @@ module _ (laws : Laws) (u : Setup) (js : List Particle) (rank : ℕ) (gather : G
           listparts = particles_within (rank_all_entries k);
         })
 
-    pub have_lists : IsStrictlyIncreasing (map (λ p. p.id) js) → HaveLists u js r.lists
+    pub have_lists : IsStrictlyIncreasing (map (λ p. p.id) js) → HaveLists u js r.lists.groups
     have_lists up k d inside n e within_bodies =
-        let l = get_or r.lists k d in
+        let l = get_or r.lists.groups k d in
         let g = get_or gather.groups k no_group in
         let count = ap length finished.bodies in
-        let short = length-map r.lists (λ (l : GroupList). l.bodies) in
+        let short = length-map r.lists.groups (λ (l : GroupList). l.bodies) in
         let shorter = length-map gather.groups (λ (g : Group). at_span g.span gather.own) in
         let here : k < length gather.groups = omega arith in
         let bodies : l.bodies ≡ at_span g.span gather.own =
-        sym (get_or-map (λ (l : GroupList). l.bodies) r.lists k d [] inside)
+        sym (get_or-map (λ (l : GroupList). l.bodies) r.lists.groups k d [] inside)
         ∙ ap (λ (ls : List (List Particle)). get_or ls k []) finished.bodies
         ∙ get_or-map (λ (g : Group). at_span g.span gather.own) gather.groups k no_group [] here in
         let entries : l.entries ≡ list_of u.theta g.around js =
-        sym (get_or-map (λ (l : GroupList). l.entries) r.lists k d [] inside)
+        sym (get_or-map (λ (l : GroupList). l.entries) r.lists.groups k d [] inside)
         ∙ ap (λ (ls : List (List Entry)). get_or ls k []) finished.entries
         ∙ get_or-map (λ (g : Group). list_of u.theta g.around js) gather.groups k no_group [] here in
         let i = get_or l.bodies n e in
@@ -326,19 +326,19 @@ module _ (laws : Laws) (u : Setup) (js : List Particle) (gathers : List Gatherin
     finished_at : (k : ℕ) (d : RankLists) → k < length finished → IsFinished u.theta u.grid js (get_or gathers k no_gather) (get_or finished k d)
     finished_at k d within = are.each k d within no_gather
 
-    pub all_lists : AreListsOf u js (flat_map (λ r. r.lists) finished)
+    pub all_lists : AreListsOf u js (flat_map (λ r. r.lists.groups) finished)
     all_lists = record {
       all =
           let dealt : IsPermutation js (flat_map (particles_of u.grid js) (range_with_len 0 (rank_count u.grid))) = dealt_out (λ (j : Particle). owner u.grid js j.at) (rank_count u.grid) (λ j. laws.owners u.grid js j.at division) js in
-          let own = permuted_by_rank (particles_of u.grid js) (λ (r : RankLists). flat_map (λ (l : GroupList). l.bodies) r.lists) 0 finished
-          (λ k d within. subst (λ (n : ℕ). IsPermutation (particles_of u.grid js n) (flat_map (λ (l : GroupList). l.bodies) (get_or finished k d).lists)) (omega arith)
+          let own = permuted_by_rank (particles_of u.grid js) (λ (r : RankLists). flat_map (λ (l : GroupList). l.bodies) r.lists.groups) 0 finished
+          (λ k d within. subst (λ (n : ℕ). IsPermutation (particles_of u.grid js n) (flat_map (λ (l : GroupList). l.bodies) (get_or finished k d).lists.groups)) (omega arith)
           (own_bodies laws u js k (get_or gathers k no_gather) division (in_grid k (inside k within)) (has_at k no_gather (inside k within)) (get_or finished k d) (finished_at k d within))) in
-          let whole : IsPermutation (flat_map (particles_of u.grid js) (range_with_len 0 (rank_count u.grid))) (flat_map (λ (l : GroupList). l.bodies) (flat_map (λ (r : RankLists). r.lists) finished)) =
-          subst (IsPermutation (flat_map (particles_of u.grid js) (range_with_len 0 (rank_count u.grid)))) (sym (joined_bodies (λ (r : RankLists). r.lists) finished))
-          (subst (λ (n : ℕ). IsPermutation (flat_map (particles_of u.grid js) (range_with_len 0 n)) (flat_map (λ (r : RankLists). flat_map (λ (l : GroupList). l.bodies) r.lists) finished)) as_long own) in
-          IsPermutation-trans js (flat_map (particles_of u.grid js) (range_with_len 0 (rank_count u.grid))) (flat_map (λ (l : GroupList). l.bodies) (flat_map (λ (r : RankLists). r.lists) finished)) dealt whole;
+          let whole : IsPermutation (flat_map (particles_of u.grid js) (range_with_len 0 (rank_count u.grid))) (flat_map (λ (l : GroupList). l.bodies) (flat_map (λ (r : RankLists). r.lists.groups) finished)) =
+          subst (IsPermutation (flat_map (particles_of u.grid js) (range_with_len 0 (rank_count u.grid)))) (sym (joined_bodies (λ (r : RankLists). r.lists.groups) finished))
+          (subst (λ (n : ℕ). IsPermutation (flat_map (particles_of u.grid js) (range_with_len 0 n)) (flat_map (λ (r : RankLists). flat_map (λ (l : GroupList). l.bodies) r.lists.groups) finished)) as_long own) in
+          IsPermutation-trans js (flat_map (particles_of u.grid js) (range_with_len 0 (rank_count u.grid))) (flat_map (λ (l : GroupList). l.bodies) (flat_map (λ (r : RankLists). r.lists.groups) finished)) dealt whole;
       each =
-          all_joined (λ (l : GroupList). All (λ i. l.entries ≡ list_for u js js i) l.bodies) (λ (r : RankLists). r.lists) finished
+          all_joined (λ (l : GroupList). All (λ i. l.entries ≡ list_for u js js i) l.bodies) (λ (r : RankLists). r.lists.groups) finished
           (λ k d within. have_lists laws u js k (get_or gathers k no_gather) division (in_grid k (inside k within)) (has_at k no_gather (inside k within)) (get_or finished k d) (finished_at k d within) up);
     }
 
@@ -380,7 +380,7 @@ module _ (laws : Laws) (g : Division) (t : Criterion) (limit : ℕ) (js : List P
   finished_for : (finished : List RankLists) → AreFinished t g js gathers finished → AreFinished u.theta u.grid js gathers finished
   finished_for finished are = subst (λ (h : Division). AreFinished u.theta h js gathers finished) (sym by.grid) (subst (λ (c : Criterion). AreFinished c g js gathers finished) (sym by.theta) are)
 
-  pub lists_for_run : (finished : List RankLists) → AreFinished t g js gathers finished → AreListsOf u js (flat_map (λ r. r.lists) finished)
+  pub lists_for_run : (finished : List RankLists) → AreFinished t g js gathers finished → AreListsOf u js (flat_map (λ r. r.lists.groups) finished)
   lists_for_run finished are = all_lists laws u js gathers divided ready_for ready.up finished (finished_for finished are)
 
   pub lines_for_run : (finished : List RankLists) → AreFinished t g js gathers finished → map (λ r. r.line) finished ≡ map (rank_counts u js) (ranks u)

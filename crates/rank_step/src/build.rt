@@ -51,7 +51,7 @@ pub(crate) fn build<R: Threads + Wait + Sync, G: Gate>(
     requires some { 1 ≤ limit }
     requires most { limit ≤ MOST_GROUP }
     ensures lists { (u : Setup) → BuildsBy grid theta limit u
-        → IfOk result (λ built. AreListsOf u bodies.now (flat_map (λ r. r.lists) built.0.items)) }
+        → IfOk result (λ built. AreListsOf u bodies.now (flat_map (λ r. r.lists.groups) built.0.items)) }
     ensures counts { (u : Setup) → BuildsBy grid theta limit u
         → IfOk result (λ built. map (λ r. r.line) built.0.items ≡ map (rank_counts u bodies.now) (all_ranks u)) }
     ensures arrivals { IfOk result (λ built. AreArrivals (rank_count grid) built.1.items) }
@@ -81,7 +81,7 @@ fn build_by<R: Threads + Wait + Sync, T: Terms + Send + Sync, G: Gate>(
     requires some { 1 ≤ limit }
     requires most { limit ≤ MOST_GROUP }
     ensures lists { (u : Setup) → BuildsBy T.grid T.theta limit u
-        → IfOk result (λ built. AreListsOf u T.particles (flat_map (λ r. r.lists) built.0.items)) }
+        → IfOk result (λ built. AreListsOf u T.particles (flat_map (λ r. r.lists.groups) built.0.items)) }
     ensures counts { (u : Setup) → BuildsBy T.grid T.theta limit u
         → IfOk result (λ built. map (λ r. r.line) built.0.items ≡ map (rank_counts u T.particles) (all_ranks u)) }
     ensures arrivals { IfOk result (λ built. AreArrivals (rank_count T.grid) built.1.items) }
@@ -104,7 +104,7 @@ fn finish<T: Terms>(
     requires ascending { IsStrictlyIncreasing (map (λ p. p.id) T.particles) }
     requires gathered { HaveGathered limit T.grid T.particles gathers.items }
     ensures lists { (u : Setup) → BuildsBy T.grid T.theta limit u
-        → IfOk result (λ built. AreListsOf u T.particles (flat_map (λ r. r.lists) built.items)) }
+        → IfOk result (λ built. AreListsOf u T.particles (flat_map (λ r. r.lists.groups) built.items)) }
     ensures counts { (u : Setup) → BuildsBy T.grid T.theta limit u
         → IfOk result (λ built. map (λ r. r.line) built.items ≡ map (rank_counts u T.particles) (all_ranks u)) }
     ensures few { (u : Setup) → BuildsBy T.grid T.theta limit u → OnOk result (lists_fault u T.particles ≡ None) }

@@ -94,7 +94,11 @@ pub(crate) fn build_and_take<R: Threads + Wait + Sync, G: Gate>(
 fn lines_of(alloc: Global, built: &[RankLists]) -> Result<Vec<RankLine>, AllocError>
     ensures { IfOk result (λ lines. lines.items ≡ map (λ r. r.line) built.now) }
 {
-    built.iter().map(|rank| rank.line).collect(alloc)
+    let mut lines = Vec::with_capacity(alloc, built.len())?;
+    for rank in built {
+        lines.push(rank.line)?;
+    }
+    Ok(lines)
 }
 
 // The forces on particles by ascending id, by lists of a build on them, and the groups that each worker claimed.
@@ -108,17 +112,17 @@ fn with_forces<R: Threads + Sync, G: Gate>(
     built: &[RankLists],
     now: &[Body],
 ) -> Result<(Vec<Forced>, Vec<Claims>), StepFault>
-    requires particles { AreBodies (bodies_in (flat_map (λ r. r.lists) built.now)) }
+    requires particles { AreBodies (bodies_in (flat_map (λ r. r.lists.groups) built.now)) }
     requires ascending { IsStrictlyIncreasing (map (λ p. p.id) now.now) }
     requires some_workers { 1 ≤ workers }
     requires most_workers { workers ≤ 64 }
-    ensures forces { (u : Setup) → TakesFrom t.now edge now.now (flat_map (λ r. r.lists) built.now) u
+    ensures forces { (u : Setup) → TakesFrom t.now edge now.now (flat_map (λ r. r.lists.groups) built.now) u
         → IfOk result (λ r. r.0.items ≡ rules.with_forces u now.now now.now) }
     ensures claims { IfOk result (λ r.
-        HaveAllGroups workers (length (flat_map (λ b. b.lists) built.now)) r.1.items) }
-    ensures no_fault { (u : Setup) → TakesFrom t.now edge now.now (flat_map (λ r. r.lists) built.now) u
+        HaveAllGroups workers (length (flat_map (λ b. b.lists.groups) built.now)) r.1.items) }
+    ensures no_fault { (u : Setup) → TakesFrom t.now edge now.now (flat_map (λ r. r.lists.groups) built.now) u
         → OnOk result (first_given (forces_fault u now.now now.now) now.now ≡ None) }
-    ensures fault { (u : Setup) → TakesFrom t.now edge now.now (flat_map (λ r. r.lists) built.now) u
+    ensures fault { (u : Setup) → TakesFrom t.now edge now.now (flat_map (λ r. r.lists.groups) built.now) u
         → IfErr result (StopsAt (first_given (forces_fault u now.now now.now) now.now)) }
 {
     orders_by_id_are_one();

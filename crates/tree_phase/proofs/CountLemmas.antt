@@ -13,7 +13,7 @@ abbrev entries_of : GroupList → List Entry
 entries_of l = l.entries
 
 no_list : GroupList
-no_list = record { bodies = []; entries = [] }
+no_list = record { span = record { first = 0; len = 0 }; bodies = []; entries = [] }
 
 -- what is read of the lists' entries stands in one of them
 list_at : (lists : List GroupList) (n : ℕ) (entries : List Entry) → n < length lists → slice_get (map entries_of lists) n ≡ Some entries → (l : GroupList) × (get_or lists n l ≡ l) × (l.entries ≡ entries)

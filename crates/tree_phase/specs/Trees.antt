@@ -113,8 +113,8 @@ pub record AreArrivals (ranks : ℕ) (arrivals : List Arrivals) : Type 0 where
 -- what a gather ends with, where every rank is in: its lists, and what is told of them
 pub record IsFinished (t : Criterion) (g : Division) (js : List Particle) (gather : Gathering) (r : RankLists)
     : Type 0 where
-  pub bodies : map (λ l. l.bodies) r.lists ≡ map (λ group. at_span group.span gather.own) gather.groups
-  pub entries : map (λ l. l.entries) r.lists ≡ map (λ group. list_of t group.around js) gather.groups
+  pub bodies : map (λ l. l.bodies) r.lists.groups ≡ map (λ group. at_span group.span gather.own) gather.groups
+  pub entries : map (λ l. l.entries) r.lists.groups ≡ map (λ group. list_of t group.around js) gather.groups
   pub line :
       let received = received_by t g js gather in
-      r.line ≡ counts_of (length gather.own) (cells_in received) (particles_within received) r.lists
+      r.line ≡ counts_of (length gather.own) (cells_in received) (particles_within received) r.lists.groups

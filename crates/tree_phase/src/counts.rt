@@ -8,7 +8,7 @@ use run_model::RankLine;
 
 // What the text of a step tells of a rank that has so many particles, and received so many cells and particles.
 pub(crate) fn counts_of(particles: u32, cells: u32, parts: u32, lists: &Lists) -> RankLine
-    ensures { result ≡ counts_of particles cells parts lists.now }
+    ensures { result ≡ counts_of particles cells parts lists.now.groups }
 {
     let groups = lists.groups();
     let mut listcells = 0;

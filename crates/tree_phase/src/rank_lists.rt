@@ -8,11 +8,11 @@ use run_model::RankLine;
 pub struct RankLists {
     pub lists: Lists,
     pub line: RankLine,
-    ghost told: { line.groups ≡ length lists },
+    ghost told: { line.groups ≡ length lists.groups },
 }
 
 impl HasLists for RankLists {
-    ghost has = { λ r. r.lists };
+    ghost has = { λ r. r.lists.groups };
 
     fn lists(&self) -> &Lists {
         &self.lists

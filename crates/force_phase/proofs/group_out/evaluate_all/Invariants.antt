@@ -1,6 +1,6 @@
 use Rattle.std.proofs.Common.{◌≡◌, List, length, map}
 use Rattle.std.specs.List.{All}
-use Rattle.pf_model.specs.declared.entry.Entry.{Entry}
+use Rattle.group_lists.specs.Whole.{GroupList}
 use Rattle.kern_types.specs.Declarations.{forces_of}
 use Rattle.force_phase.specs.Gathered.{IsReady}
 use Rattle.force_phase.specs.Outcome.{row_width}
@@ -13,5 +13,5 @@ invariant-loop-k l = record {
   ready : IsReady l.t l.work.scratch l.work.targets.items (length l.work.tallies.items);
   rows : length l.rows ≡ length l.bodies;
   widths : All (λ row. length row ≡ row_width (forces_of l.t.decls)) l.rows;
-  evaluated : (entries : List Entry) → l.partners ≡ map partner_of entries → IsEvaluated l.edge l.t (record { bodies = l.bodies; entries = entries }) l.k l.least l.rows;
+  evaluated : (g : GroupList) → l.partners ≡ map partner_of g.entries → IsEvaluated l.edge l.t (record g { bodies = l.bodies }) l.k l.least l.rows;
 }

@@ -13,8 +13,8 @@ row_width-width-requires c =
 
 pub returns : goal.returns
 returns c = λ g is.
-    let bodies = part_at (λ l. l.bodies) c.args.lists.now c.args.group g c.group.result.now is c.group.ensures in
-    let entries = part_at (λ l. l.entries) c.args.lists.now c.args.group g c.entries.result.now is c.entries.ensures.value in
+    let bodies = part_at (λ l. l.bodies) c.args.lists.now.groups c.args.group g c.group.result.now is c.group.ensures in
+    let entries = part_at (λ l. l.entries) c.args.lists.now.groups c.args.group g c.entries.result.now is c.entries.ensures.value in
     let width : c.row_width-width.result ≡ row_width (forces_of c.args.t.now.decls) = c.row_width-width.ensures ∙ ap row_width c.forces.ensures in
     let P : ℕ → Type 0 = λ n. All (λ row. length row ≡ n) c.in_ok-rows_of.field-0.items in
     record {

@@ -19,8 +19,8 @@ made g c =
     let t = g.T.Terms.theta in
     let grid = g.T.Terms.grid in
     let js = g.T.Terms.particles in
-    let keyed : IsKeyed t grid js c.args.tree.now c.tree.inside.keys.items c.tree.inside.sums.items = subst (λ (v : Essential). IsKeyed t grid js v c.tree.inside.keys.items c.tree.inside.sums.items) c.tree.view_is c.tree.invariant in
-    runs_are_made c.items_make_pieces.ensures t grid js c.args.tree.now c.args.b c.tree.inside.keys.items c.tree.inside.sums.items c.deref-run-items.result.now g.T.Terms.are_bodies g.T.Terms.within_limits c.requires.served keyed
+    let keyed : IsKeyed t grid js c.args.tree.now c.tree.inside.keys.items c.tree.inside.places.items c.tree.inside.sums.items = subst (λ (v : Essential). IsKeyed t grid js v c.tree.inside.keys.items c.tree.inside.places.items c.tree.inside.sums.items) c.tree.view_is c.tree.invariant in
+    runs_are_made c.items_make_pieces.ensures t grid js c.args.tree.now c.args.b c.tree.inside.keys.items c.tree.inside.places.items c.tree.inside.sums.items c.deref-run-items.result.now g.T.Terms.are_bodies g.T.Terms.within_limits c.requires.served keyed
     (λ ps e. subst (AreCellRuns t c.args.b ps) (sym c.deref-run-items.ensures.value)
     (subst (λ (k : Criterion). AreCellRuns k c.args.b ps c.find_runs.new.runs.items) c.requires.theta (c.in_ok-find_runs.ensures.runs ps (c.deref.ensures.value ∙ e))))
 

@@ -20,7 +20,7 @@ pub with_forces-requires-clause-particles : goal.with_forces-requires-clause-par
 unfolding run_by
 with_forces-requires-clause-particles g c _ _ =
     let u = run_by c.args.t.now c.args.grid c.args.theta c.args.group 0 in
-    subst (λ (built : List RankLists). AreBodies (bodies_in (flat_map (λ r. r.lists) built))) (sym c.deref-2.ensures.value)
+    subst (λ (built : List RankLists). AreBodies (bodies_in (flat_map (λ r. r.lists.groups) built))) (sym c.deref-2.ensures.value)
     (lists_have_bodies c.distinct_ids_ignore_order.ensures u c.args.now.now _ (c.in_ok-built.ensures.lists u (record { grid = refl; theta = refl; group = refl })) c.requires.particles)
 
 pub returns-in_err-built-clause-fault : goal.returns-in_err-built-clause-fault
@@ -32,15 +32,15 @@ pub returns-in_err-bodies-clause-fault : goal.returns-in_err-bodies-clause-fault
 returns-in_err-bodies-clause-fault g c u takes =
     let p = err_from_is_err_and c.from_residual-in_err-bodies.result c.from_residual-in_err-bodies.ensures.1 in
     let built = c.deref-2.result.now in
-    let lists = subst (λ (rs : List RankLists). AreListsOf u c.args.now.now (flat_map (λ r. r.lists) rs)) (sym c.deref-2.ensures.value) (c.in_ok-built.ensures.lists u takes.builds) in
-    let from = takes_from u c.args.t.now c.args.grid c.args.theta c.args.group c.args.now.now (flat_map (λ (r : RankLists). r.lists) built) takes _ (ap (λ (t : Criterion). t.edge) c.theta.view_is) lists in
+    let lists = subst (λ (rs : List RankLists). AreListsOf u c.args.now.now (flat_map (λ r. r.lists.groups) rs)) (sym c.deref-2.ensures.value) (c.in_ok-built.ensures.lists u takes.builds) in
+    let from = takes_from u c.args.t.now c.args.grid c.args.theta c.args.group c.args.now.now (flat_map (λ (r : RankLists). r.lists.groups) built) takes _ (ap (λ (t : Criterion). t.edge) c.theta.view_is) lists in
     rw (p.1, p.2) (stops_later _ _ c.in_err-bodies.field-0.0 (c.in_ok-built.ensures.few u takes.builds) (c.in_err-bodies.ensures.fault u from))
 
 pub returns-clause-taken : goal.returns-clause-taken
 returns-clause-taken g c u takes =
     let built = c.deref-2.result.now in
-    let lists = subst (λ (rs : List RankLists). AreListsOf u c.args.now.now (flat_map (λ r. r.lists) rs)) (sym c.deref-2.ensures.value) (c.in_ok-built.ensures.lists u takes.builds) in
-    let from = takes_from u c.args.t.now c.args.grid c.args.theta c.args.group c.args.now.now (flat_map (λ (r : RankLists). r.lists) built) takes _ (ap (λ (t : Criterion). t.edge) c.theta.view_is) lists in
+    let lists = subst (λ (rs : List RankLists). AreListsOf u c.args.now.now (flat_map (λ r. r.lists.groups) rs)) (sym c.deref-2.ensures.value) (c.in_ok-built.ensures.lists u takes.builds) in
+    let from = takes_from u c.args.t.now c.args.grid c.args.theta c.args.group c.args.now.now (flat_map (λ (r : RankLists). r.lists.groups) built) takes _ (ap (λ (t : Criterion). t.edge) c.theta.view_is) lists in
     record {
       no_fault = none_of_both _ _ (c.in_ok-built.ensures.few u takes.builds) (c.in_ok-bodies.ensures.no_fault u from);
       forces = c.in_ok-bodies.ensures.forces u from;
@@ -53,7 +53,7 @@ pub returns-clause-claims : goal.returns-clause-claims
 returns-clause-claims g c =
     let given = c.deref-2.ensures.value in
     let built = c.deref-3.result.now in
-    let same : flat_map (λ (r : RankLists). r.lists) c.deref-2.result.now ≡ flat_map (λ (r : RankLists). r.lists) built = ap (flat_map (λ (r : RankLists). r.lists)) (given ∙ sym c.deref-3.ensures.value) in
+    let same : flat_map (λ (r : RankLists). r.lists.groups) c.deref-2.result.now ≡ flat_map (λ (r : RankLists). r.lists.groups) built = ap (flat_map (λ (r : RankLists). r.lists.groups)) (given ∙ sym c.deref-3.ensures.value) in
     let lines = ap groups_told c.in_ok-lines_of.ensures in
     subst (λ (n : ℕ). HaveAllGroups c.args.workers n c.in_ok-bodies.claims.items)
     (ap (λ (l : List GroupList). length l) same ∙ sym (groups_counted built) ∙ sym lines) c.in_ok-bodies.ensures.claims

@@ -9,17 +9,17 @@ use Rattle.rank_step.proofs.forces.with_forces.Goals as goal
 pub returns-clause-forces : goal.returns-clause-forces
 returns-clause-forces g c u takes =
     c.in_ok-bodies.ensures
-    ∙ TakesFrom_forces c.orders_by_id_are_one.ensures u c.args.t.now c.args.edge c.args.now.now (flat_map (λ (r : RankLists). r.lists) c.args.built.now) takes (ascend c.args.now.now c.requires.ascending) c.in_ok-out.out.rows.items
+    ∙ TakesFrom_forces c.orders_by_id_are_one.ensures u c.args.t.now c.args.edge c.args.now.now (flat_map (λ (r : RankLists). r.lists.groups) c.args.built.now) takes (ascend c.args.now.now c.requires.ascending) c.in_ok-out.out.rows.items
     c.in_ok-out.ensures.rows
 
 pub returns-clause-no_fault : goal.returns-clause-no_fault
 returns-clause-no_fault g c u takes =
-    TakesFrom_no_fault c.orders_by_id_are_one.ensures u c.args.t.now c.args.edge c.args.now.now (flat_map (λ (r : RankLists). r.lists) c.args.built.now) takes (ascend c.args.now.now c.requires.ascending)
+    TakesFrom_no_fault c.orders_by_id_are_one.ensures u c.args.t.now c.args.edge c.args.now.now (flat_map (λ (r : RankLists). r.lists.groups) c.args.built.now) takes (ascend c.args.now.now c.requires.ascending)
     c.in_ok-out.ensures.no_fault
 
 pub returns-in_err-out-clause-fault : goal.returns-in_err-out-clause-fault
 returns-in_err-out-clause-fault g c u takes =
     let p = err_from_is_err_and c.from_residual.result c.from_residual.ensures.1 in
     rw (p.1, p.2)
-    (TakesFrom_fault c.orders_by_id_are_one.ensures u c.args.t.now c.args.edge c.args.now.now (flat_map (λ (r : RankLists). r.lists) c.args.built.now) takes (ascend c.args.now.now c.requires.ascending) c.in_err-out.field-0.0
+    (TakesFrom_fault c.orders_by_id_are_one.ensures u c.args.t.now c.args.edge c.args.now.now (flat_map (λ (r : RankLists). r.lists.groups) c.args.built.now) takes (ascend c.args.now.now c.requires.ascending) c.in_err-out.field-0.0
     c.in_err-out.ensures.fault)

@@ -7,7 +7,7 @@ use Rattle.tree_phase.proofs.counts.counts_of.Goals as goal
 
 pub loop-group-preserved : goal.loop-group-preserved
 loop-group-preserved c =
-    let lists = c.args.lists.now in
+    let lists = c.args.lists.now.groups in
     let n = c.loop-group.group in
     let entries = c.entries-entries.result.now in
     let test = c.loop-group-test.true in
