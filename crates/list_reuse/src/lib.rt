@@ -1,0 +1,10 @@
+// The lists of a build, kept while their particles move: what ranks send one another again, and the lists with the
+// present moments and bodies. It stands on group_lists and essential_tree, with the octrees of morton_tree, the
+// parcels' names of let_inbox, pf_model, pf_geom and the want of memory of pf_num.
+#![tactic(auto)]
+
+mod refresh;
+mod refreshing;
+
+pub use refresh::Refresh;
+pub use refreshing::refreshed;
