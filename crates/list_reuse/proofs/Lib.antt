@@ -1,2 +1,12 @@
 pub mod ItemLemmas
 pub mod RefreshLemmas
+pub mod PermutationLemmas
+pub mod PartLemmas
+pub mod SumLemmas
+pub mod OneLemmas
+pub mod ValueLemmas
+pub mod RenewLemmas
+pub mod GroupLemmas
+pub mod KeptLemmas
+pub mod BeginLemmas
+pub mod PresentLemmas

@@ -1,5 +1,5 @@
 -- The items of an essential tree, with their members as they are now.
-use Rattle.std.proofs.Common.{◌≡◌, ℕ, ◌+◌, ◌<◌, ◌≤◌, Bool, true, false, List, [], ◌∷◌, ◌++◌, length, get_or, take, drop, map, Option, Some, None, inl, inr, ◌⊎◌, refl, sym, ◌∙◌, ap, subst, arith}
+use Rattle.std.proofs.Common.{◌≡◌, ℕ, ◌+◌, ◌<◌, Bool, List, [], ◌∷◌, ◌++◌, length, get_or, take, drop, map, Option, Some, None, inl, inr, refl, sym, ◌∙◌, ap, subst, arith}
 use Rattle.std.specs.List.{slice_get, filter, Contains, IsDistinct}
 use Rattle.std.specs.Option.{is_none, option_map}
 use Rattle.std.specs.List.Sorted.{IsPermutation}
@@ -27,7 +27,6 @@ use Rattle.morton_tree.specs.declared.span.Span.{Span}
 use Rattle.morton_tree.specs.Tree.{Octree, IsOctree}
 use Rattle.morton_tree.specs.Spans.{at_span}
 use Rattle.essential_tree.specs.declared.sent.Sent.{Sent}
-use Rattle.essential_tree.specs.Sending.{cells_among, IsSentOf}
 use Rattle.list_reuse.specs.Refreshing.{IsKeptOf, present_items}
 use Rattle.list_reuse.proofs.ItemLemmas.{IsItemAt, item_at, from_filter, into_filter, first_of_span}
 
@@ -48,7 +47,7 @@ pub record Laws : Type 0 where
   pub entries_are_found : PresentEntriesAreFound
 
 -- particles of the same ids in the same order are found by them
-all_found : PresentEntriesAreFound → (now : List Particle) → HaveDistinctIds now → (js ks : List Particle) → ids ks ≡ ids js → ((k : Particle) → Contains ks k → Contains now k) → map (as_in now) js ≡ ks
+pub all_found : PresentEntriesAreFound → (now : List Particle) → HaveDistinctIds now → (js ks : List Particle) → ids ks ≡ ids js → ((k : Particle) → Contains ks k → Contains now k) → map (as_in now) js ≡ ks
 all_found law now distinct [] [] same some = refl
 all_found law now distinct [] (k ∷ ks) same some = absurd (cc)
 all_found law now distinct (j ∷ js) [] same some = absurd (cc)

@@ -1,5 +1,10 @@
 pub mod Refreshing
+pub mod Keeping
+pub mod Renewing
+pub mod KeepLaws
+pub mod KeepingLaws
 pub use Rattle.pf_model.specs.Interaction
 pub use Rattle.pf_model.specs.Reuse
 pub use Rattle.essential_tree.specs.Sending
+pub use Rattle.group_lists.specs.Listing
 pub use Rattle.morton_tree.specs.Tree

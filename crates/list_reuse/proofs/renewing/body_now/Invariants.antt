@@ -1,0 +1,18 @@
+use Rattle.std.proofs.Common.{◌≡◌, [], ◌∷◌, Some, take, map}
+use Rattle.std.specs.List.{slice_get, flat_map}
+use Rattle.pf_model.specs.declared.entry.Entry.{Entry}
+use Rattle.pf_model.specs.declared.entry.Entry.TheVariants.{One}
+use Rattle.pf_model.specs.Particle.{Particle}
+use Rattle.group_lists.specs.Whole.{GroupList}
+use Rattle.group_lists.specs.Listing.{SourceItems}
+use Rattle.list_reuse.specs.Renewing.{built_list, rank_members}
+use Rattle.list_reuse.proofs.renewing.body_now.Given as goal
+
+abbrev pub ghost-body_of : goal.ghost-body_of
+ghost-body_of g a = g.m
+
+abbrev pub invariant-loop-source : goal.invariant-loop-source
+invariant-loop-source g l =
+    let ls = l.lists in
+    (k : GroupList) (e : Entry) (p : Particle) → slice_get ls.groups l.group ≡ Some k → slice_get (built_list g.m ls.built k) l.place ≡ Some e → e ≡ One p →
+    flat_map (rank_members g.m ls.built k e) (g.m.rank ∷ take l.source (map (λ (s : SourceItems). s.src) ls.sources)) ≡ []

@@ -1,0 +1,26 @@
+-- The laws by which kept lists are renewed.
+use Rattle.pf_model.specs.DomainLaws.{AllRanksHaveAll}
+use Rattle.pf_model.specs.MomentLaws.{MomentsIgnoreOrder, MomentsAddUp, EntriesJoinInAnyOrder}
+use Rattle.pf_model.specs.ListLaws.{LevelsAreLeast, ListsHoldTheirEntries, FirstCellsHoldTheirMembers}
+use Rattle.pf_model.specs.ParticleLaws.{SomeHaveDistinctIds, ParticlesOfOneIdAreOne, DistinctIdsIgnoreOrder}
+use Rattle.pf_model.specs.Sufficiency.{BoxesLieInDomains}
+use Rattle.pf_model.specs.ReuseLaws.{PresentIgnoresOrder, PresentAreFound, PresentMembersAreOfRanks}
+use Rattle.pf_model.specs.ReuseLaws.{KeptEntriesAddUpItemsOfSome}
+
+-- what is known of lists, of what is present, and of moments
+pub record Laws : Type 0 where
+  pub lists : ListsHoldTheirEntries
+  pub levels : LevelsAreLeast
+  pub first_cells : FirstCellsHoldTheirMembers
+  pub some : SomeHaveDistinctIds
+  pub one_id : ParticlesOfOneIdAreOne
+  pub distinct : DistinctIdsIgnoreOrder
+  pub order : MomentsIgnoreOrder
+  pub joins : EntriesJoinInAnyOrder
+  pub are_found : PresentAreFound
+  pub present_order : PresentIgnoresOrder
+  pub of_some : KeptEntriesAddUpItemsOfSome
+  pub domains : BoxesLieInDomains
+  pub add : MomentsAddUp
+  pub of_ranks : PresentMembersAreOfRanks
+  pub all_ranks : AllRanksHaveAll
