@@ -31,7 +31,7 @@ use Rattle.tree_phase.specs.declared.growing.Grower.{Grower}
 use Rattle.tree_phase.specs.declared.rank_tree.RankTree.{RankTree}
 use Rattle.tree_phase.specs.Exchange.{tree_source, tree_target, is_essential, IsFresh, HasSent, HasGrown, CanAllSettle, Waits, EndsWith, HasEnded, waiting, received}
 use Rattle.tree_phase.specs.Parcels.{tree_sent, trees_sent, trees_received}
-use Rattle.tree_phase.specs.Trees.{EachByRank, AreArrivals, AreGathersOver, AreGroupsOf, AreRankTrees, AreTreesOf, HaveGathered, IsRankTree, IsTreeOf}
+use Rattle.tree_phase.specs.Trees.{EachByRank, AreArrivals, AreGathersOver, AreGroupsOf, AreRankTrees, AreTreesOf, HaveGathered, HaveSentAll, IsRankTree, IsTreeOf}
 use Rattle.tree_phase.proofs.SendLemmas.{targets_sent}
 use Rattle.tree_phase.proofs.ZipLemmas.{length_zipped, zipped_at}
 
@@ -242,6 +242,14 @@ module _ (X : Type 0) (t : Criterion) (g : Division) (js : List Particle) where
           let here : rank < length posts = (let same = counted in omega arith) in
           (grown_at rank (some_of posts rank here) r inside).tree);
     }
+
+    pub grown_kept : EachByRank (HaveSentAll t g js) trees
+    grown_kept rank r within =
+        let many = trees_counted in
+        let long = grown_posts_counted in
+        let inside : rank < length growers = omega arith in
+        let here : rank < length posts = (let same = counted in omega arith) in
+        (grown_at rank (some_of posts rank here) r inside).kept
 
   -- ---- ranks that wait
 

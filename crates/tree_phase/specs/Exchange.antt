@@ -19,7 +19,7 @@ use Rattle.tree_phase.specs.declared.rank_tree.RankTree.{RankTree}
 use Rattle.group_lists.specs.Gathering.{Gathering}
 use Rattle.tree_phase.specs.declared.arrivals.Arrivals.{Arrivals}
 use Rattle.tree_phase.specs.Parcels.{trees_sent, trees_received}
-use Rattle.tree_phase.specs.Trees.{IsArrivalAt, IsTreeOf, gathered_over}
+use Rattle.tree_phase.specs.Trees.{HaveSentAll, IsArrivalAt, IsTreeOf, gathered_over}
 
 module _ {X : Type 0} where
   -- the rank that a parcel is from, and the one that it is for
@@ -50,11 +50,12 @@ module _ {X : Type 0} (t : Criterion) (g : Division) (js : List Particle) where
     pub sent : (state_of p).sent ≡ trees_sent t g js rank (length inboxes)
     pub settled : (state_of p).settled ≡ []
 
-  -- so, and it has the tree of what it owns
+  -- so, and it has the tree of what it owns, and keeps what it sent
   pub record HasGrown (limit : ℕ) (inboxes : List (Inbox (TreeParcel X))) (rank : ℕ) (p : Post (TreeParcel X))
       (r : RankTree) : Type 0 where
     pub post : HasSent inboxes rank p
     pub tree : IsTreeOf limit (particles_of g js rank) r
+    pub kept : HaveSentAll t g js rank r
 
   -- the post of a rank, and the tokens of the trees that were sent to it
   pub record CanSettle (inboxes : List (Inbox (TreeParcel X))) (rank : ℕ) (p : Post (TreeParcel X))

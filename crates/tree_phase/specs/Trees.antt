@@ -1,6 +1,7 @@
 -- The tree of each rank, and what it gathers.
 use Rattle.std.specs.Prelude.{◌≡◌, ℕ, ◌+◌, ◌*◌, ◌<◌, ◌≤◌, List, length, map, flat_map, All}
 use Rattle.std.specs.Prelude.{IsPermutation, slice_index_or}
+use Rattle.std.specs.List.{AllZip}
 use Rattle.pf_model.specs.declared.entry.Entry.{Entry}
 use Rattle.pf_model.specs.declared.limits.TheConstants.{MOST_PARTICLES}
 use Rattle.pf_model.specs.Criterion.{Criterion}
@@ -15,12 +16,14 @@ use Rattle.morton_tree.specs.Spans.{at_span, FollowOneAnother}
 use Rattle.morton_tree.specs.Tree.{IsUnmoved}
 use Rattle.exchange.specs.States.{Holding}
 use Rattle.group_lists.specs.Gathering.{Gathering, IsGroupOf}
+use Rattle.group_lists.specs.Listing.{IsSource}
 use Rattle.let_inbox.specs.Sources.{others}
 use Rattle.run_model.specs.Text.{cells_in, particles_within}
 use Rattle.tree_phase.specs.declared.arrivals.Arrivals.{Arrivals}
 use Rattle.tree_phase.specs.declared.rank_lists.RankLists.{RankLists}
 use Rattle.tree_phase.specs.declared.rank_tree.RankTree.{RankTree}
 use Rattle.tree_phase.specs.Counts.{counts_of}
+use Rattle.tree_phase.specs.Parcels.{AreSentTo}
 
 -- what holds of each rank's, by number
 abbrev pub EachByRank : {X : Type 0} → (ℕ → X → Type 0) → List X → Type 0
@@ -48,6 +51,10 @@ pub record IsTreeOf (limit : ℕ) (js : List Particle) (r : RankTree) : Type 0 w
 pub record AreTreesOf (limit : ℕ) (g : Division) (js : List Particle) (trees : List RankTree) : Type 0 where
   pub counted : length trees ≡ rank_count g
   pub each : EachByRank (λ rank r. IsTreeOf limit (particles_of g js rank) r) trees
+
+-- what a rank keeps of the essential trees that it sent, one for each other rank
+abbrev pub HaveSentAll : Criterion → Division → List Particle → ℕ → RankTree → Type 0
+HaveSentAll t g js rank r = AreSentTo t g js rank r.tree.built (others rank (rank_count g)) r.sent.items
 
 -- the tree of what a rank owns, with groups of it
 pub record IsRankTree (g : Division) (js : List Particle) (rank : ℕ) (r : RankTree) : Type 0 where
@@ -115,6 +122,10 @@ pub record IsFinished (t : Criterion) (g : Division) (js : List Particle) (gathe
     : Type 0 where
   pub bodies : map (λ l. l.bodies) r.lists.groups ≡ map (λ group. at_span group.span gather.own) gather.groups
   pub entries : map (λ l. l.entries) r.lists.groups ≡ map (λ group. list_of t group.around js) gather.groups
+  pub spans : map (λ l. l.span) r.lists.groups ≡ map (λ group. group.span) gather.groups
+  pub built : r.lists.built ≡ gather.own
+  pub own : r.lists.own ≡ gather.own
+  pub sources : AllZip (λ src s. IsSource (essential_tree t g js src gather.rank) src s) gather.absorbed r.lists.sources
   pub line :
       let received = received_by t g js gather in
       r.line ≡ counts_of (length gather.own) (cells_in received) (particles_within received) r.lists.groups

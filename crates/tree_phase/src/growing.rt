@@ -72,9 +72,9 @@ fn send_trees<R: Threads + Wait + Sync, T: Terms + Send + Sync, L: Ledger>(
     some_have_distinct_ids();
     let ranks = shared.inboxes.len() as u32;
     let state = &shared.ranks[rank as usize];
-    let own = RankTree::of(shared.rt, shared.alloc, &state.bodies, shared.limit)?;
+    let mut own = RankTree::of(shared.rt, shared.alloc, &state.bodies, shared.limit)?;
     let mut steps = Steps::<L>::new(blank);
-    let parcels = trees_sent(
+    let (parcels, sent) = trees_sent(
         shared.alloc,
         &own.tree,
         rank,
@@ -83,6 +83,7 @@ fn send_trees<R: Threads + Wait + Sync, T: Terms + Send + Sync, L: Ledger>(
         shared.theta,
         &mut steps,
     )?;
+    own.sent = sent;
     post.send(shared.rt, shared.inboxes, parcels);
     post.receive(shared.rt, shared.inboxes);
     Ok(own)

@@ -18,3 +18,4 @@ pub use arrivals::Arrivals;
 pub use phases::{Gathered, gather_all};
 pub use rank_gather::RankGather;
 pub use rank_lists::RankLists;
+pub use rank_tree::RankTree;

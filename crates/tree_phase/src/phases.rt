@@ -6,7 +6,7 @@ ghost use Rattle.tree_phase.specs.Exchange.{IsFresh, HasSent, HasGrown, CanAllSe
 ghost use Rattle.tree_phase.specs.Exchange.{waiting, received};
 ghost use Rattle.tree_phase.specs.Shared.{AreGrounds};
 ghost use Rattle.tree_phase.specs.Trees.{AreArrivals, AreGathersOver, AreRankTrees, AreTreesOf, EachByRank};
-ghost use Rattle.tree_phase.specs.Trees.{HaveGathered, HaveOwn};
+ghost use Rattle.tree_phase.specs.Trees.{HaveGathered, HaveOwn, HaveSentAll};
 
 use crate::arrivals::Arrivals;
 use crate::gathering::{Gathering, Receiver, receive};
@@ -26,9 +26,10 @@ use std::alloc::Global;
 use std::sync::Wait;
 use std::thread::Threads;
 
-/// What each rank gathered from all others, by rank, and in which order it came.
+/// The trees of the ranks, what each rank gathered from all others over its tree, and in which order it came, by rank.
 #[derive(Drop)]
 pub struct Gathered<T: Terms> {
+    pub trees: Vec<RankTree>,
     pub gathers: Vec<RankGather<T>>,
     pub arrivals: Vec<Arrivals>,
 }
@@ -51,6 +52,9 @@ pub fn gather_all<'x, R: Threads + Wait + Sync, T: Terms + Send + Sync, G: Gate>
     requires targets { AreTargets T.grid T.particles domains.now }
     requires some { 1 ≤ limit }
     requires most { limit ≤ MOST_GROUP }
+    ensures trees { IfOk result (λ b. AreTreesOf limit T.grid T.particles b.trees.items) }
+    ensures sent { IfOk result (λ b. EachByRank (HaveSentAll T.theta T.grid T.particles) b.trees.items) }
+    ensures over { IfOk result (λ b. AreGathersOver T.grid b.trees.items b.gathers.items) }
     ensures gathers { IfOk result (λ b. HaveGathered limit T.grid T.particles b.gathers.items) }
     ensures arrivals { IfOk result (λ b. AreArrivals (rank_count T.grid) b.arrivals.items) }
 {
@@ -73,7 +77,12 @@ pub fn gather_all<'x, R: Threads + Wait + Sync, T: Terms + Send + Sync, G: Gate>
         inboxes: &inboxes,
         theta: t,
     };
-    receive_all(&gathering, workers, gate, posts, tokens)
+    let (gathers, arrivals) = receive_all(&gathering, workers, gate, posts, tokens)?;
+    Ok(Gathered {
+        trees,
+        gathers,
+        arrivals,
+    })
 }
 
 // The inboxes of the ranks, and their posts.
@@ -122,6 +131,7 @@ fn grow_all<R: Threads + Wait + Sync, T: Terms + Send + Sync, G: Gate>(
     ensures sent { IfOk result (λ b.
         EachByRank (HasSent T.theta T.grid T.particles shared.now.inboxes.now) b.0.items) }
     ensures trees { IfOk result (λ b. AreTreesOf shared.now.limit T.grid T.particles b.1.items) }
+    ensures kept { IfOk result (λ b. EachByRank (HaveSentAll T.theta T.grid T.particles) b.1.items) }
 {
     let growers = growers_of(shared.alloc, posts)?;
     let growers = grow_each(shared, workers, gate, growers)?;
@@ -173,7 +183,7 @@ fn receive_all<R: Threads + Wait + Sync, T: Terms + Send + Sync, G: Gate>(
     gate: &G,
     posts: Vec<Post<TreeParcel<T>>>,
     tokens: Vec<Vec<Spent<TreeParcel<T>>>>,
-) -> Result<Gathered<T>, OutOfMemory>
+) -> Result<(Vec<RankGather<T>>, Vec<Arrivals>), OutOfMemory>
     requires workers { 1 ≤ workers }
     requires criterion { shared.now.theta ≡ T.theta }
     requires trees { AreRankTrees T.grid T.particles shared.now.trees.now }
@@ -181,8 +191,8 @@ fn receive_all<R: Threads + Wait + Sync, T: Terms + Send + Sync, G: Gate>(
     requires posts { length posts.items ≡ rank_count T.grid }
     requires tokens { length tokens.items ≡ rank_count T.grid }
     requires settle { CanAllSettle T.theta T.grid T.particles shared.now.inboxes.now posts.items tokens.items }
-    ensures gathers { IfOk result (λ b. AreGathersOver T.grid shared.now.trees.now b.gathers.items) }
-    ensures arrivals { IfOk result (λ b. AreArrivals (rank_count T.grid) b.arrivals.items) }
+    ensures gathers { IfOk result (λ b. AreGathersOver T.grid shared.now.trees.now b.0.items) }
+    ensures arrivals { IfOk result (λ b. AreArrivals (rank_count T.grid) b.1.items) }
 {
     let receivers = receivers_of(shared.alloc, posts, tokens)?;
     let receivers = receive_each(shared, workers, gate, receivers)?;
@@ -275,9 +285,9 @@ fn receivers_of<T: Terms>(
 fn all_received<T: Terms>(
     alloc: Global,
     receivers: Vec<Receiver<T>>,
-) -> Result<Gathered<T>, OutOfMemory>
-    ensures received { IfOk result (λ b. map received (zip b.gathers.items b.arrivals.items) ≡ receivers.items) }
-    ensures counted { IfOk result (λ b. length b.gathers.items ≡ length b.arrivals.items) }
+) -> Result<(Vec<RankGather<T>>, Vec<Arrivals>), OutOfMemory>
+    ensures received { IfOk result (λ b. map received (zip b.0.items b.1.items) ≡ receivers.items) }
+    ensures counted { IfOk result (λ b. length b.0.items ≡ length b.1.items) }
 {
     let mut gathers = Vec::with_capacity(alloc, receivers.len())?;
     let mut arrivals = Vec::with_capacity(alloc, receivers.len())?;
@@ -288,5 +298,5 @@ fn all_received<T: Terms>(
         gathers.push(gather)?;
         arrivals.push(arrival)?;
     }
-    Ok(Gathered { gathers, arrivals })
+    Ok((gathers, arrivals))
 }

@@ -29,26 +29,26 @@ trees_sent-requires-clause-own g c =
 
 pub send-requires-clause-targets : goal.send-requires-clause-targets
 send-requires-clause-targets g c =
-    ap (map (tree_target {X = g.row.T.Denot})) c.in_ok-parcels.ensures
+    ap (map (tree_target {X = g.row.T.Denot})) c.in_ok-parcels.ensures.parcels
     ∙ targets_sent g.row.T.Denot g.T.Terms.theta g.T.Terms.grid g.T.Terms.particles c.args.rank (length c.args.shared.now.inboxes.now)
     ∙ sym (ap (λ (s : PostState (TreeParcel g.row.T.Denot)). s.unsent) c.requires.post.fresh)
 
 pub send-requires-clause-sources : goal.send-requires-clause-sources
 send-requires-clause-sources g c k d within =
     let all = others c.args.rank (length c.args.shared.now.inboxes.now) in
-    let same = ap length c.in_ok-parcels.ensures in
+    let same = ap length c.in_ok-parcels.ensures.parcels in
     let long = length-map all (tree_sent {X = g.row.T.Denot} g.T.Terms.theta g.T.Terms.grid g.T.Terms.particles c.args.rank) in
     let inside : k < length all = omega arith in
-    let at = ap (λ (l : List (TreeParcel g.row.T.Denot)). get_or l k d) c.in_ok-parcels.ensures
+    let at = ap (λ (l : List (TreeParcel g.row.T.Denot)). get_or l k d) c.in_ok-parcels.ensures.parcels
     ∙ sent_at g.row.T.Denot g.T.Terms.theta g.T.Terms.grid g.T.Terms.particles c.args.rank (length c.args.shared.now.inboxes.now) k d inside in
     ap (λ (p : TreeParcel g.row.T.Denot). p.tree.src) at ∙ sym (ap (λ (s : PostState (TreeParcel g.row.T.Denot)). s.rank) c.requires.post.fresh)
 
 pub send-requires-clause-terms : goal.send-requires-clause-terms
 send-requires-clause-terms g c k d within =
     let all = others c.args.rank (length c.args.shared.now.inboxes.now) in
-    let same = ap length c.in_ok-parcels.ensures in
+    let same = ap length c.in_ok-parcels.ensures.parcels in
     let long = length-map all (tree_sent {X = g.row.T.Denot} g.T.Terms.theta g.T.Terms.grid g.T.Terms.particles c.args.rank) in
     let inside : k < length all = omega arith in
-    let at = ap (λ (l : List (TreeParcel g.row.T.Denot)). get_or l k d) c.in_ok-parcels.ensures
+    let at = ap (λ (l : List (TreeParcel g.row.T.Denot)). get_or l k d) c.in_ok-parcels.ensures.parcels
     ∙ sent_at g.row.T.Denot g.T.Terms.theta g.T.Terms.grid g.T.Terms.particles c.args.rank (length c.args.shared.now.inboxes.now) k d inside in
     subst (is_essential g.T.Terms.theta g.T.Terms.grid g.T.Terms.particles) (sym at) refl

@@ -1,5 +1,4 @@
 use Rattle.std.proofs.Common.{sym, subst}
-use Rattle.std.proofs.lemmas.Result.{IfOk-weaker}
 use Rattle.tree_phase.specs.Trees.{AreTreesOf}
 use Rattle.tree_phase.proofs.PhaseLemmas.{rank_trees, have_gathered}
 use Rattle.tree_phase.proofs.phases.gather_all.Goals as goal
@@ -12,6 +11,4 @@ receive_all-requires-clause-trees g c κs within =
 pub returns-clause-gathers : goal.returns-clause-gathers
 returns-clause-gathers g c =
     let trees = subst (AreTreesOf c.args.limit g.T.Terms.grid g.T.Terms.particles) (sym c.deref-3.ensures.value) c.in_ok-posts.ensures.trees in
-    IfOk-weaker c.receive_all.result _ _
-    (λ b are. have_gathered c.args.limit g.T.Terms.grid g.T.Terms.particles c.deref-3.result.now b.gathers.items trees are)
-    c.receive_all.ensures.gathers
+    have_gathered c.args.limit g.T.Terms.grid g.T.Terms.particles c.deref-3.result.now c.in_ok-gathers.gathers.items trees c.in_ok-gathers.ensures.gathers

@@ -4,7 +4,7 @@ use Rattle.all_to_all.specs.declared.post.Post.{Post}
 use Rattle.essential_tree.specs.declared.tree_parcel.TreeParcel.{TreeParcel}
 use Rattle.tree_phase.specs.declared.growing.Grower.{Grower}
 use Rattle.tree_phase.specs.Exchange.{IsFresh}
-use Rattle.tree_phase.proofs.PhaseLemmas.{if_both, grown_posts_counted, grown_sent, grown_trees}
+use Rattle.tree_phase.proofs.PhaseLemmas.{if_both, grown_posts_counted, grown_sent, grown_trees, grown_kept}
 use Rattle.tree_phase.proofs.phases.grow_all.Goals as goal
 
 pub grow_each-requires-clause-counted : goal.grow_each-requires-clause-counted
@@ -39,5 +39,12 @@ pub returns-clause-trees : goal.returns-clause-trees
 returns-clause-trees g c =
     if_both c.grown.result _ _ _
     (λ b p q. grown_trees g.row.T.Denot g.T.Terms.theta g.T.Terms.grid g.T.Terms.particles c.args.shared.now.limit c.args.shared.now.inboxes.now c.in_ok-growers-2.growers.items b.0.items b.1.items
+    c.in_ok-growers-2.ensures.counted c.in_ok-growers-2.ensures.each p q)
+    c.grown.ensures.posts c.grown.ensures.trees
+
+pub returns-clause-kept : goal.returns-clause-kept
+returns-clause-kept g c =
+    if_both c.grown.result _ _ _
+    (λ b p q. grown_kept g.row.T.Denot g.T.Terms.theta g.T.Terms.grid g.T.Terms.particles c.args.shared.now.limit c.args.shared.now.inboxes.now c.in_ok-growers-2.growers.items b.0.items b.1.items
     c.in_ok-growers-2.ensures.counted c.in_ok-growers-2.ensures.each p q)
     c.grown.ensures.posts c.grown.ensures.trees

@@ -17,13 +17,13 @@ receive_each-requires-clause-wait g c κs kept =
 pub returns-clause-gathers : goal.returns-clause-gathers
 returns-clause-gathers g c =
     if_both c.all_received.result _ _ _
-    (λ b p q. gathers_over g.row.T.Denot g.T.Terms.grid c.args.shared.now.trees.now c.in_ok-receivers-2.receivers.items b.gathers.items b.arrivals.items
+    (λ b p q. gathers_over g.row.T.Denot g.T.Terms.grid c.args.shared.now.trees.now c.in_ok-receivers-2.receivers.items b.0.items b.1.items
     c.requires.trees.counted c.in_ok-receivers-2.ensures.counted c.in_ok-receivers-2.ensures.each p q)
     c.all_received.ensures.received c.all_received.ensures.counted
 
 pub returns-clause-arrivals : goal.returns-clause-arrivals
 returns-clause-arrivals g c =
     if_both c.all_received.result _ _ _
-    (λ b p q. arrivals_are g.row.T.Denot g.T.Terms.grid c.args.shared.now.trees.now c.in_ok-receivers-2.receivers.items b.gathers.items b.arrivals.items
+    (λ b p q. arrivals_are g.row.T.Denot g.T.Terms.grid c.args.shared.now.trees.now c.in_ok-receivers-2.receivers.items b.0.items b.1.items
     c.requires.trees.counted c.in_ok-receivers-2.ensures.counted c.in_ok-receivers-2.ensures.each p q)
     c.all_received.ensures.received c.all_received.ensures.counted
