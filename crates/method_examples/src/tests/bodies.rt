@@ -1,10 +1,12 @@
-ghost use Rattle.std.specs.Prelude.{◌≡◌, ◌^◌, ◌<◌, [], ◌∷◌, map};
+ghost use Rattle.std.specs.Prelude.{◌≡◌, ◌^◌, ◌<◌, [], ◌∷◌, map, IfOk};
 ghost use Rattle.pf_model.specs.Particle.{IsMass};
 ghost use Rattle.pf_model.specs.Particles.{HaveDistinctIds};
 ghost use Rattle.method_examples.specs.Resting.{resting, two_close_and_one_far};
 
 use pf_geom::Point;
 use pf_model::Body;
+use pf_num::OutOfMemory;
+use std::alloc::Global;
 
 // A particle at rest on the x axis.
 pub fn body(id: u32, x: u32, mass: u32) -> Body
@@ -28,4 +30,23 @@ pub fn two_close_and_one_far() -> [Body; 3]
     ensures distinct { HaveDistinctIds result }
 {
     [body(1, 0, 1), body(2, 1048576, 1), body(3, 1048581, 3)]
+}
+
+// Bodies half as far along the x axis.
+pub fn halfway(alloc: Global, bodies: &[Body]) -> Result<Vec<Body>, OutOfMemory>
+    ensures { IfOk result (λ now. map (λ j. j.id) now.items ≡ map (λ j. j.id) bodies.now) }
+{
+    let mut now = Vec::with_capacity(alloc, bodies.len())?;
+    for body in bodies {
+        now.push(half(body))?;
+    }
+    Ok(now)
+}
+
+fn half(body: &Body) -> Body
+    ensures { result.id ≡ body.now.id }
+{
+    let mut half = *body;
+    half.at.x /= 2;
+    half
 }

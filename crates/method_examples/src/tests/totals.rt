@@ -1,6 +1,6 @@
 ghost use Rattle.std.specs.Prelude.{◌^◌, ◌<◌, ◌≤◌};
 
-use moments::{centre, item, merge, of_one, prefix_of};
+use moments::{centre, item, merge, of_one, prefix_of, prefix_over};
 use pf_geom::Point;
 use pf_model::{Body, Moment};
 use std::test::Fail;
@@ -69,5 +69,22 @@ fn a_range_leaves_out_what_is_before_it_and_after_it(rt: HostRuntime) -> Result<
     assert_eq!(rt; middle.weighted, [1048576, 0, 0]);
     assert_eq!(rt; prefix.range(0, 3).attr, [-3, 0, 0, 0, 0, 0, 0, 5]);
     assert_eq!(rt; prefix.range(3, 0), Moment::none());
+    Ok(())
+}
+
+#[test]
+fn sums_go_over_moments_too(rt: HostRuntime) -> Result<(), Fail> {
+    let one = of_one(&body(1, 3, 2, 1, 0));
+    let m = of_one(&body(2, 1048576, 1, 5, -2));
+    let n = of_one(&body(3, 1048581, 3, -9, 7));
+    assert!(rt; one.count <= 1 && m.count <= 1 && n.count <= 1);
+    let pair = merge(m, n);
+    assert!(rt; pair.count <= 2);
+    let mut prefix = prefix_over(rt.alloc(), &[one, pair])?;
+    assert_eq!(rt; prefix.range(1, 1), pair);
+    assert_eq!(rt; prefix.range(0, 2).weighted, [4194325, 0, 0]);
+    prefix.refill_over(&[pair, one]);
+    assert_eq!(rt; prefix.range(0, 1), pair);
+    assert_eq!(rt; prefix.range(0, 2).mass, 6);
     Ok(())
 }

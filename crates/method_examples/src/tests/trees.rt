@@ -1,6 +1,6 @@
 ghost use Rattle.std.specs.Prelude.{◌≡◌, ◌≢◌, ◌^◌, ◌<◌, ◌≤◌};
 
-use super::bodies::body;
+use super::bodies::{body, halfway};
 use moments::centre;
 use morton_tree::{Group, Span, Tree};
 use pf_geom::{Box3, Cell, Point};
@@ -68,6 +68,31 @@ fn bodies_stand_in_order_of_key_and_then_id(rt: HostRuntime) -> Result<(), Fail>
 }
 
 #[test]
+fn a_tree_keeps_the_keys_of_its_bodies(rt: HostRuntime) -> Result<(), Fail> {
+    let tree = two_close_and_one_far(&rt, rt.alloc())?;
+    assert_eq!(rt; tree.keys(), [0, 1 << 62, (1 << 62) + 260].as_slice());
+    Ok(())
+}
+
+#[test]
+fn bodies_that_moved_keep_the_spans_of_the_build(rt: HostRuntime) -> Result<(), Fail> {
+    let mut tree = two_close_and_one_far(&rt, rt.alloc())?;
+    let now = halfway(rt.alloc(), tree.bodies())?;
+    tree.moved(&now);
+    let present = [body(1, 0, 1), body(2, 524288, 1), body(3, 524290, 3)];
+    assert_eq!(rt; tree.bodies(), present.as_slice());
+    assert_eq!(rt; tree.keys(), [0, 1 << 62, (1 << 62) + 260].as_slice());
+    let pair = tree.node(Cell { level: 10, key: 4 });
+    assert_eq!(rt; pair, Span { first: 1, len: 2 });
+    let moment = tree.moment(pair);
+    assert!(rt; moment.count == 2);
+    assert_eq!(rt; moment.mass, 4);
+    assert_eq!(rt; moment.weighted, [2097158, 0, 0]);
+    assert_eq!(rt; centre(&moment), at(524289));
+    Ok(())
+}
+
+#[test]
 fn a_cell_has_the_moment_of_its_bodies(rt: HostRuntime) -> Result<(), Fail> {
     let tree = two_close_and_one_far(&rt, rt.alloc())?;
     let pair = tree.node(Cell { level: 10, key: 4 });
@@ -90,6 +115,24 @@ fn the_spans_of_children_follow_one_another(rt: HostRuntime) -> Result<(), Fail>
     assert_eq!(rt; first, Span { first: 0, len: 1 });
     assert_eq!(rt; [second, third, fourth], [Span { first: 1, len: 0 }; 3]);
     assert_eq!(rt; fifth, Span { first: 1, len: 2 });
+    assert_eq!(rt; [sixth, seventh, last], [Span { first: 3, len: 0 }; 3]);
+    Ok(())
+}
+
+#[test]
+fn the_children_of_a_cell_are_found_within_its_span(rt: HostRuntime) -> Result<(), Fail> {
+    let tree = two_close_and_one_far(&rt, rt.alloc())?;
+    let near = Cell {
+        level: 27,
+        key: 1 << 53,
+    };
+    let [first, second, third, fourth, fifth, sixth, seventh, last] = tree.children_in(
+        near,
+        tree.node(near),
+    );
+    assert_eq!(rt; first, Span { first: 1, len: 1 });
+    assert_eq!(rt; [second, third, fourth], [Span { first: 2, len: 0 }; 3]);
+    assert_eq!(rt; fifth, Span { first: 2, len: 1 });
     assert_eq!(rt; [sixth, seventh, last], [Span { first: 3, len: 0 }; 3]);
     Ok(())
 }
