@@ -1,3 +1,4 @@
 mod absorbing;
 mod bodies;
+mod members;
 mod sent;

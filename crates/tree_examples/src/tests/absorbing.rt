@@ -11,7 +11,7 @@ use essential_tree::essential;
 use group_lists::{Gather, Lists, MOST_ENTRIES};
 use morton_tree::Tree;
 use multisection::{Domains, make_domains, target};
-use pf_model::{Body, Build, Entry, EssTree, Steps, Terms, some_have_distinct_ids};
+use pf_model::{Body, Build, Entry, EssTree, Steps, Terms, Theta, some_have_distinct_ids};
 use pf_num::OutOfMemory;
 use std::alloc::Global;
 use std::marker::Brand;
@@ -21,10 +21,10 @@ use std::thread::Threads;
 
 // What a rank has once it has absorbed two others: how long its lists are, the list of its first group, and all.
 #[derive(Drop)]
-struct Absorbed {
-    count: u64,
-    first: Vec<Entry>,
-    lists: Lists,
+pub struct Absorbed {
+    pub count: u64,
+    pub first: Vec<Entry>,
+    pub lists: Lists,
 }
 
 // The tree of the bodies that a rank owns.
@@ -156,7 +156,24 @@ fn gathered(
     requires ranks { (rank < 3) × (one < 3) × (other < 3) }
     requires apart { (one ≢ rank) × (other ≢ rank) × (one ≢ other) }
 {
-    let build = Build::of(bodies, slabs(3), angle(1, 1));
+    gathered_at(rt, alloc, bodies, angle(1, 1), rank, one, other)
+}
+
+// The same, at an opening angle.
+pub fn gathered_at(
+    rt: &(impl Threads + Sync),
+    alloc: Global,
+    bodies: &[Body],
+    t: Theta,
+    rank: u32,
+    one: u32,
+    other: u32,
+) -> Result<Absorbed, OutOfMemory>
+    requires bodies { AreBodies bodies.now }
+    requires ranks { (rank < 3) × (one < 3) × (other < 3) }
+    requires apart { (one ≢ rank) × (other ≢ rank) × (one ≢ other) }
+{
+    let build = Build::of(bodies, slabs(3), t);
     gathered_in::<Brand, Brand>(rt, alloc, &build, rank, one, other, Blank::new(1))
 }
 

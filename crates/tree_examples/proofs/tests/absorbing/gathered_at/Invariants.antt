@@ -1,4 +1,4 @@
-use Rattle.tree_examples.proofs.tests.absorbing.gathered.Given as goal
+use Rattle.tree_examples.proofs.tests.absorbing.gathered_at.Given as goal
 
 abbrev pub ghosts-gathered_in-L-Ledger : goal.ghosts-gathered_in-L-Ledger
 ghosts-gathered_in-L-Ledger g a = record { name = a.blank.name; parts = a.blank.parts }
