@@ -130,3 +130,16 @@ kept_again m ls tree parcels before kept same renewal =
       ranks = kept.ranks;
       sources = kept.sources;
     }
+
+-- their spans stay
+spans_stay : (m : Motion) (built own : List Particle) (gs : List GroupList) → map (λ (l : GroupList). l.span) (map (renewed_group m built) (map (with_bodies own) gs)) ≡ map (λ (l : GroupList). l.span) gs
+spans_stay m built own [] = refl
+spans_stay m built own (l ∷ ls) = ap (λ rest. l.span ∷ rest) (spans_stay m built own ls)
+
+-- what stays of the lists
+pub all_stay : (m : Motion) (ls new : Listing) (own : List Particle) → new ≡ record (with_own own ls) { groups = map (renewed_group m ls.built) (with_own own ls).groups } →
+    (new.built ≡ ls.built) × (map (λ l. l.span) new.groups ≡ map (λ l. l.span) ls.groups)
+all_stay m ls new own is = (
+  ap (λ (v : Listing). v.built) is,
+  ap (λ (v : Listing). map (λ (l : GroupList). l.span) v.groups) is ∙ spans_stay m ls.built own ls.groups,
+)

@@ -1,4 +1,4 @@
-ghost use Rattle.std.specs.Prelude.{◌≡◌, List, IfOk};
+ghost use Rattle.std.specs.Prelude.{◌≡◌, List, IfOk, map};
 ghost use Rattle.pf_model.specs.Particle.{Particle};
 ghost use Rattle.list_reuse.specs.Keeping.{Motion, AreKept, IsRenewal, at_time};
 
@@ -49,7 +49,9 @@ impl Kept {
         requires kept { (before : List Particle) × AreKept (at_time m before) self.old }
         requires tree { own.now.built ≡ self.old.built }
         requires renewal { IsRenewal m own.now parcels.now }
-        ensures { AreKept m self.new }
+        ensures kept { AreKept m self.new }
+        ensures built { self.new.built ≡ self.old.built }
+        ensures spans { map (λ l. l.span) self.new.groups ≡ map (λ l. l.span) self.old.groups }
     {
         renew(&mut self.lists, own, parcels);
     }
@@ -61,7 +63,9 @@ fn renew(lists: &mut Lists, own: &Tree, parcels: &[Refresh])
     requires kept { (before : List Particle) × AreKept (at_time m before) lists.old }
     requires tree { own.now.built ≡ lists.old.built }
     requires renewal { IsRenewal m own.now parcels.now }
-    ensures { AreKept m lists.new }
+    ensures kept { AreKept m lists.new }
+    ensures built { lists.new.built ≡ lists.old.built }
+    ensures spans { map (λ l. l.span) lists.new.groups ≡ map (λ l. l.span) lists.old.groups }
 {
     laws();
     lists.set_own(own.bodies());

@@ -3,7 +3,7 @@ use Rattle.pf_model.specs.Particle.{Particle}
 use Rattle.group_lists.specs.Listing.{Listing, OfGroup, with_own}
 use Rattle.list_reuse.specs.Keeping.{AreKept}
 use Rattle.list_reuse.specs.Renewing.{CanRenew, IsOwnTree, with_group, renewed_group}
-use Rattle.list_reuse.proofs.KeptLemmas.{half, can_begin, can_half, half_long, half_more, half_all, kept_again}
+use Rattle.list_reuse.proofs.KeptLemmas.{half, can_begin, can_half, half_long, half_more, half_all, kept_again, all_stay}
 use Rattle.list_reuse.proofs.kept.renew.Goals as goal
 
 pub set_own-requires : goal.set_own-requires
@@ -20,8 +20,8 @@ loop-group-preserved g c =
     half_more g.m start new n below
     (subst (λ (v : Listing). OfGroup v.groups n (λ l. new ≡ with_group v n (renewed_group g.m v.built l))) c.loop-group.invariant c.renew_group.ensures)
 
-pub returns : goal.returns
-returns g c =
+pub returns-clause-kept : goal.returns-clause-kept
+returns-clause-kept g c =
     let ls = c.args.lists.now in
     let start = c.set_own.new.self in
     let n = c.loop-group.group in
@@ -29,6 +29,26 @@ returns g c =
     let past : length start.groups ≤ n = subst (λ (k : ℕ). k ≤ n) c.groups-group-end.ensures.value c.loop-group-test.false in
     let all = c.loop-group.invariant ∙ half_all g.m start n past ∙ ap (λ (v : Listing). record v { groups = map (renewed_group g.m v.built) v.groups }) is in
     subst (AreKept g.m) (sym all) (kept_again g.m ls c.args.own.now c.args.parcels.now c.requires.0.0 c.requires.0.1 c.requires.1.0 c.requires.1.1)
+
+pub returns-clause-built : goal.returns-clause-built
+returns-clause-built g c =
+    let ls = c.args.lists.now in
+    let start = c.set_own.new.self in
+    let n = c.loop-group.group in
+    let is : start ≡ with_own c.args.own.now.bodies ls = c.set_own.ensures ∙ ap (λ (js : List Particle). with_own js ls) c.bodies.ensures.value in
+    let past : length start.groups ≤ n = subst (λ (k : ℕ). k ≤ n) c.groups-group-end.ensures.value c.loop-group-test.false in
+    let all = c.loop-group.invariant ∙ half_all g.m start n past ∙ ap (λ (v : Listing). record v { groups = map (renewed_group g.m v.built) v.groups }) is in
+    (all_stay g.m ls c.loop-group.lists c.args.own.now.bodies all).0
+
+pub returns-clause-spans : goal.returns-clause-spans
+returns-clause-spans g c =
+    let ls = c.args.lists.now in
+    let start = c.set_own.new.self in
+    let n = c.loop-group.group in
+    let is : start ≡ with_own c.args.own.now.bodies ls = c.set_own.ensures ∙ ap (λ (js : List Particle). with_own js ls) c.bodies.ensures.value in
+    let past : length start.groups ≤ n = subst (λ (k : ℕ). k ≤ n) c.groups-group-end.ensures.value c.loop-group-test.false in
+    let all = c.loop-group.invariant ∙ half_all g.m start n past ∙ ap (λ (v : Listing). record v { groups = map (renewed_group g.m v.built) v.groups }) is in
+    (all_stay g.m ls c.loop-group.lists c.args.own.now.bodies all).1
 
 pub renew_group-requires : goal.renew_group-requires
 renew_group-requires g c = (
