@@ -1,6 +1,5 @@
 pub mod CountLemmas
 pub mod OtherLemmas
-pub mod RisingLemmas
 pub mod ParcelLemmas
 pub mod PhaseLemmas
 pub mod SendLemmas

@@ -7,7 +7,8 @@ ghost use Rattle.tree_phase.specs.Parcels.{trees_received};
 
 use crate::rank_gather::RankGather;
 use essential_tree::TreeParcel;
-use pf_model::{Steps, Terms};
+use let_inbox::{others_are_few, others_are_the_sources, others_ascend};
+use pf_model::{Steps, Terms, sorts_by_key_are_one};
 use pf_num::OutOfMemory;
 use std::alloc::Global;
 use std::sync::ledger::Ledger;
@@ -34,6 +35,8 @@ fn sort_by_source<T: Terms>(parcels: &mut [TreeParcel<T>])
         → IsPermutation (trees_received t g js rank ranks) parcels.old
         → parcels.new ≡ trees_received t g js rank ranks }
 {
+    others_ascend();
+    sorts_by_key_are_one::<TreeParcel<T>>();
     parcels.sort_unstable_by_key(|parcel| parcel.tree.src);
 }
 
@@ -48,6 +51,9 @@ fn absorb_all<T: Terms, L: Ledger>(
     requires all { parcels.items ≡ trees_received T.theta T.grid T.particles gather.rank (rank_count T.grid) }
     ensures { IfOk result (λ after. after ≡ record gather { absorbed = others gather.rank (rank_count T.grid) }) }
 {
+    others_ascend();
+    others_are_the_sources();
+    others_are_few();
     let mut gather = gather;
     for parcel in parcels {
         gather = gather.absorb(alloc, parcel.tree, steps)?;

@@ -6,6 +6,7 @@ ghost use Rattle.let_inbox.specs.Sources.{others};
 ghost use Rattle.tree_phase.specs.Parcels.{trees_sent, AreSentTo};
 
 use essential_tree::{Sent, TreeParcel, essential};
+use let_inbox::others_grow;
 use morton_tree::Tree;
 use multisection::{Domains, target};
 use pf_model::{Steps, Terms, Theta};
@@ -31,6 +32,7 @@ pub(crate) fn trees_sent<T: Terms, L: Ledger>(
     ensures kept { IfOk result (λ b.
         AreSentTo T.theta T.grid T.particles rank own.now.built (others rank ranks) b.1.items) }
 {
+    others_grow();
     let mut parcels = Vec::with_capacity(alloc, ranks as usize)?;
     let mut kept = Vec::with_capacity(alloc, ranks as usize)?;
     for dst in 0..ranks {

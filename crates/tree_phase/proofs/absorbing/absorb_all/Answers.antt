@@ -24,7 +24,7 @@ absorb-requires-clause-new g c =
     let place = length c.loop-parcel.yielded in
     let within = turn_within g.row.T.Denot g.T.Terms.theta g.T.Terms.grid g.T.Terms.particles c.args.gather.rank (rank_count g.T.Terms.grid) c.args.parcels.items c.requires.all place c.in-Some.parcel turn in
     let parcel_is = turn_is g.row.T.Denot g.T.Terms.theta g.T.Terms.grid g.T.Terms.particles c.args.gather.rank (rank_count g.T.Terms.grid) c.args.parcels.items c.requires.all place c.in-Some.parcel turn in
-    new_source g.T.Terms.grid c.loop-parcel.gather c.args.gather place c.loop-parcel.invariant within c.in-Some.parcel.tree.src
+    new_source g.T.Terms.grid c.loop-parcel.gather c.args.gather place c.loop-parcel.invariant within c.others_ascend.ensures c.others_are_the_sources.ensures c.in-Some.parcel.tree.src
     (sym (ap (λ (p : TreeParcel g.row.T.Denot). p.tree.src) parcel_is))
 
 pub absorb-requires-clause-few : goal.absorb-requires-clause-few
@@ -33,7 +33,7 @@ absorb-requires-clause-few g c =
     let turn = YieldsList-turn (YieldsList-from_vec c.args.parcels.items start.0 (start.1 ∙ c.args.parcels.ok.0)) c.loop-parcel.yielded c.loop-parcel.parcel-iterator c.loop-parcel.yielded_by c.next.result c.next.new.self c.in-Some.parcel c.in-Some.is c.next.ensures.steps in
     let place = length c.loop-parcel.yielded in
     let within = turn_within g.row.T.Denot g.T.Terms.theta g.T.Terms.grid g.T.Terms.particles c.args.gather.rank (rank_count g.T.Terms.grid) c.args.parcels.items c.requires.all place c.in-Some.parcel turn in
-    few_absorbed g.T.Terms.grid c.loop-parcel.gather c.args.gather place c.loop-parcel.invariant within g.T.Terms.is_division
+    few_absorbed g.T.Terms.grid c.loop-parcel.gather c.args.gather place c.loop-parcel.invariant within c.others_are_few.ensures g.T.Terms.is_division
 
 pub loop-parcel-preserved : goal.loop-parcel-preserved
 loop-parcel-preserved g c =

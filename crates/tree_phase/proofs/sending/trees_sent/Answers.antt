@@ -19,21 +19,21 @@ loop-dst-preserved g c =
             parcels = ap (λ v. v.items) w.parcels-is ∙ w.in_ok-push.ensures.items
                 ∙ (λ i. c.loop-dst.invariant.parcels i ++ record { tree = tree i } ∷ [])
                 ∙ sym (map-append sent (others c.args.rank c.loop-dst.dst) (c.loop-dst.dst ∷ []))
-                ∙ ap (map sent) (with_other c.args.rank c.loop-dst.dst w.if-dst-rank.true);
+                ∙ ap (map sent) (with_other c.others_grow.ensures c.args.rank c.loop-dst.dst w.if-dst-rank.true);
             kept =
                 subst (λ (s : List Sent). AreSentTo g.T.Terms.theta g.T.Terms.grid g.T.Terms.particles c.args.rank c.args.own.now.built (others c.args.rank (c.loop-dst.dst + 1)) s)
                 (sym (ap (λ v. v.items) w.kept-is ∙ w.in_ok-push-2.ensures.items))
                 (subst (λ (dsts : List ℕ). AreSentTo g.T.Terms.theta g.T.Terms.grid g.T.Terms.particles c.args.rank c.args.own.now.built dsts (c.loop-dst.kept.items ++ w.in_ok-tree.sent ∷ []))
-                (with_other c.args.rank c.loop-dst.dst w.if-dst-rank.true)
+                (with_other c.others_grow.ensures c.args.rank c.loop-dst.dst w.if-dst-rank.true)
                 (sent_more g.T.Terms.theta g.T.Terms.grid g.T.Terms.particles c.args.rank c.args.own.now.built (others c.args.rank c.loop-dst.dst) c.loop-dst.kept.items c.loop-dst.dst w.in_ok-tree.sent _
                 c.loop-dst.invariant.kept w.in_ok-tree.ensures.dst (ap (λ (e : Essential). e.items) w.in_ok-tree.ensures.tree) w.in_ok-tree.ensures.sent));
           }
       | else-dst-rank w ↦ record {
-        parcels = ap (λ v. v.items) w.parcels-is ∙ c.loop-dst.invariant.parcels ∙ ap (map sent) (without_own c.args.rank c.loop-dst.dst w.if-dst-rank.false);
+        parcels = ap (λ v. v.items) w.parcels-is ∙ c.loop-dst.invariant.parcels ∙ ap (map sent) (without_own c.others_grow.ensures c.args.rank c.loop-dst.dst w.if-dst-rank.false);
         kept =
             subst (λ (s : List Sent). AreSentTo g.T.Terms.theta g.T.Terms.grid g.T.Terms.particles c.args.rank c.args.own.now.built (others c.args.rank (c.loop-dst.dst + 1)) s)
             (sym (ap (λ v. v.items) w.kept-is))
             (subst (λ (dsts : List ℕ). AreSentTo g.T.Terms.theta g.T.Terms.grid g.T.Terms.particles c.args.rank c.args.own.now.built dsts c.loop-dst.kept.items)
-            (without_own c.args.rank c.loop-dst.dst w.if-dst-rank.false) c.loop-dst.invariant.kept);
+            (without_own c.others_grow.ensures c.args.rank c.loop-dst.dst w.if-dst-rank.false) c.loop-dst.invariant.kept);
       }
     ]
