@@ -33,7 +33,7 @@ fn is_body(entry: &Entry, id: u32) -> bool {
 
 fn goes_between_threads<T: Send + Sync>(_value: &T) {}
 
-// The lists of groups of one, on one rank.
+// The lists of groups of one, on one rank, with the own bodies given anew as they stand.
 fn lists_of<T: Terms + Send + Sync, L: Ledger>(
     rt: &(impl Threads + Sync),
     alloc: Global,
@@ -57,7 +57,9 @@ fn lists_of<T: Terms + Send + Sync, L: Ledger>(
     if gather.count() > MOST_ENTRIES {
         return Err(OutOfMemory);
     }
-    gather.finish(alloc)
+    let mut lists = gather.finish(alloc)?;
+    lists.set_own(tree.bodies());
+    Ok(lists)
 }
 
 fn entries_of<H: HasLists>(has: &H, group: u32) -> &[Entry]
