@@ -63,7 +63,7 @@ joined_from_maps : {X Y Z : Type 0} (f : X → List Z) (g : Y → List Z) (xs : 
 joined_from_maps f g xs ys same =
     sym (flat_map-map (λ z. z) f xs) ∙ ap (flat_map (λ z. z)) same ∙ flat_map-map (λ z. z) g ys
 
-bodies_are : (own : List Particle) (groups : List Group) (lists : List GroupList) → FollowOneAnother 0 (length own) (map (λ g. g.span) groups) → map (λ l. l.bodies) lists ≡ map (λ g. at_span g.span own) groups → flat_map (λ l. l.bodies) lists ≡ own
+pub bodies_are : (own : List Particle) (groups : List Group) (lists : List GroupList) → FollowOneAnother 0 (length own) (map (λ g. g.span) groups) → map (λ l. l.bodies) lists ≡ map (λ g. at_span g.span own) groups → flat_map (λ l. l.bodies) lists ≡ own
 bodies_are own groups lists follow bodies =
     joined_from_maps (λ (l : GroupList). l.bodies) (λ (g : Group). at_span g.span own) lists groups bodies
     ∙ sym (flat_map-map (λ (s : Span). at_span s own) (λ (g : Group). g.span) groups)
@@ -82,13 +82,13 @@ pub record Laws : Type 0 where
 box_of-same : Laws → (some own : List Particle) (c : Octant) → IsPermutation some own → box_of (particles_in c own) ≡ box_of (particles_in c some)
 box_of-same laws some own c same = sym (laws.boxes (particles_in c some) (particles_in c own) ((laws.groups 0 some own same).2 c))
 
-group_box : Laws → (limit : ℕ) (some own : List Particle) (g : Group) (i : Particle) → IsPermutation some own → IsGroup limit own g → Contains (at_span g.span own) i → g.around ≡ box_of (group_of limit some i)
+pub group_box : Laws → (limit : ℕ) (some own : List Particle) (g : Group) (i : Particle) → IsPermutation some own → IsGroup limit own g → Contains (at_span g.span own) i → g.around ≡ box_of (group_of limit some i)
 group_box laws limit some own g i same group member =
     group.around ∙ ap box_of (group.members i member) ∙ box_of-same laws some own (group_cell limit own i.at) same
     ∙ ap (λ (c : Octant). box_of (particles_in c some)) (sym ((laws.groups limit some own same).0 i.at))
 
 -- a member of a group is one of the particles
-member_among : (limit : ℕ) (some own : List Particle) (g : Group) (i : Particle) → IsPermutation some own → IsGroup limit own g → Contains (at_span g.span own) i → Contains some i
+pub member_among : (limit : ℕ) (some own : List Particle) (g : Group) (i : Particle) → IsPermutation some own → IsGroup limit own g → Contains (at_span g.span own) i → Contains some i
 member_among limit some own g i same group member =
     let c = group_cell limit own i.at in
     let grouped : Contains (group_of limit own i) i =
@@ -96,7 +96,7 @@ member_among limit some own g i same group member =
     let all = All-filter (λ (j : Particle). is_cell c (cell_at j.at c.level)) (Contains own) own (All-contains_itself own) in
     Contains-permutation own some i (IsPermutation-sym some own same) (All-contains (Contains own) (group_of limit own i) i all grouped)
 
-no_group : Group
+pub no_group : Group
 no_group = record {
   cell = record { level = 0; key = 0 };
   span = record { first = 0; len = 0 };
@@ -104,7 +104,7 @@ no_group = record {
 }
 
 -- the lists round the boxes of the groups of some particles, joined
-lists_joined : Laws → (t : Criterion) (limit : ℕ) (js some own : List Particle) (groups : List Group) → AreGroupsOf limit some own groups → flat_map (λ g. list_of t g.around js) groups ≡ flat_map (λ c. list_of t (box_of (particles_in c some)) js) (group_cells limit some)
+pub lists_joined : Laws → (t : Criterion) (limit : ℕ) (js some own : List Particle) (groups : List Group) → AreGroupsOf limit some own groups → flat_map (λ g. list_of t g.around js) groups ≡ flat_map (λ c. list_of t (box_of (particles_in c some)) js) (group_cells limit some)
 lists_joined laws t limit js some own groups grouped =
     let round : Octant → List Entry = λ c. list_of t (box_of (particles_in c own)) js in
     let theirs : Octant → List Entry = λ c. list_of t (box_of (particles_in c some)) js in
@@ -131,7 +131,7 @@ passes {X} test (x ∷ xs) =
 -- ---- one rank
 
 -- the particles of a rank are particles that it owns
-owned_among : (g : Division) (js : List Particle) (rank : ℕ) (i : Particle) → Contains (particles_of g js rank) i → Contains js i × (owner g js i.at ≡ rank)
+pub owned_among : (g : Division) (js : List Particle) (rank : ℕ) (i : Particle) → Contains (particles_of g js rank) i → Contains js i × (owner g js i.at ≡ rank)
 owned_among g js rank i member =
     let test = λ (j : Particle). nat_eq (owner g js j.at) rank in (
       All-contains (Contains js) (particles_of g js rank) i (All-filter test (Contains js) js (All-contains_itself js)) member,
@@ -154,7 +154,7 @@ list_for-owned laws u js rank i up member =
 abbrev pub HaveLists : Setup → List Particle → List GroupList → Type 0
 HaveLists u js lists = All (λ l. All (λ i. l.entries ≡ list_for u js js i) l.bodies) lists
 
-skip_own : {X : Type 0} (f : ℕ → List X) (rank : ℕ) (ns : List ℕ) → flat_map f (filter (λ n. not (nat_eq n rank)) ns) ≡ flat_map (λ n. if nat_eq n rank then [] else f n) ns
+pub skip_own : {X : Type 0} (f : ℕ → List X) (rank : ℕ) (ns : List ℕ) → flat_map f (filter (λ n. not (nat_eq n rank)) ns) ≡ flat_map (λ n. if nat_eq n rank then [] else f n) ns
 skip_own f rank [] = refl
 skip_own {X} f rank (n ∷ ns) =
     elim (cases_eq n rank) [
@@ -266,25 +266,25 @@ sum_by_rank h f start (x ∷ xs) each =
     let more = sum_by-cons f start (range_with_len (start + 1) (length xs)) in
     omega arith
 
-map_by_rank : {X Y : Type 0} (h : X → Y) (f : ℕ → Y) (start : ℕ) (xs : List X) → ((k : ℕ) (d : X) → k < length xs → h (get_or xs k d) ≡ f (start + k)) → map h xs ≡ map f (range_with_len start (length xs))
+pub map_by_rank : {X Y : Type 0} (h : X → Y) (f : ℕ → Y) (start : ℕ) (xs : List X) → ((k : ℕ) (d : X) → k < length xs → h (get_or xs k d) ≡ f (start + k)) → map h xs ≡ map f (range_with_len start (length xs))
 map_by_rank h f start [] each = refl
 map_by_rank h f start (x ∷ xs) each =
     let rest = map_by_rank h f (start + 1) xs (λ k d within. each (suc k) d (omega arith) ∙ ap f (omega arith)) in
     let here : h x ≡ f start = each 0 x (omega arith) ∙ ap f (omega arith) in
     (λ i. here i ∷ rest i)
 
-permuted_by_rank : {X Y : Type 0} (own : ℕ → List Y) (f : X → List Y) (start : ℕ) (xs : List X) → ((k : ℕ) (d : X) → k < length xs → IsPermutation (own (start + k)) (f (get_or xs k d))) → IsPermutation (flat_map own (range_with_len start (length xs))) (flat_map f xs)
+pub permuted_by_rank : {X Y : Type 0} (own : ℕ → List Y) (f : X → List Y) (start : ℕ) (xs : List X) → ((k : ℕ) (d : X) → k < length xs → IsPermutation (own (start + k)) (f (get_or xs k d))) → IsPermutation (flat_map own (range_with_len start (length xs))) (flat_map f xs)
 permuted_by_rank own f start [] each = IsPermutation-refl []
 permuted_by_rank {X} {Y} own f start (x ∷ xs) each =
     let first : IsPermutation (own start) (f x) = subst (λ (n : ℕ). IsPermutation (own n) (f x)) (omega arith) (each 0 x (omega arith)) in
     let rest = permuted_by_rank own f (start + 1) xs (λ k d within. subst (λ (n : ℕ). IsPermutation (own n) (f (get_or xs k d))) (omega arith) (each (suc k) d (omega arith))) in
     IsPermutation-append (own start) (f x) (flat_map own (range_with_len (start + 1) (length xs))) (flat_map f xs) first rest
 
-all_joined : {X Y : Type 0} (P : Y → Type 0) (f : X → List Y) (xs : List X) → ((k : ℕ) (d : X) → k < length xs → All P (f (get_or xs k d))) → All P (flat_map f xs)
+pub all_joined : {X Y : Type 0} (P : Y → Type 0) (f : X → List Y) (xs : List X) → ((k : ℕ) (d : X) → k < length xs → All P (f (get_or xs k d))) → All P (flat_map f xs)
 all_joined P f [] each = λ k d within. absurd (omega arith)
 all_joined P f (x ∷ xs) each = All-append P (f x) (flat_map f xs) (each 0 x (omega arith)) (all_joined P f xs (λ k d within. each (suc k) d (omega arith)))
 
-joined_bodies : {X : Type 0} (f : X → List GroupList) (xs : List X) → flat_map (λ (l : GroupList). l.bodies) (flat_map f xs) ≡ flat_map (λ x. flat_map (λ (l : GroupList). l.bodies) (f x)) xs
+pub joined_bodies : {X : Type 0} (f : X → List GroupList) (xs : List X) → flat_map (λ (l : GroupList). l.bodies) (flat_map f xs) ≡ flat_map (λ x. flat_map (λ (l : GroupList). l.bodies) (f x)) xs
 joined_bodies f [] = refl
 joined_bodies f (x ∷ xs) =
     flat_map-append (λ (l : GroupList). l.bodies) (f x) (flat_map f xs) ∙ ap (λ rest. flat_map (λ (l : GroupList). l.bodies) (f x) ++ rest) (joined_bodies f xs)
@@ -326,7 +326,7 @@ module _ (laws : Laws) (u : Setup) (js : List Particle) (gathers : List Gatherin
     finished_at : (k : ℕ) (d : RankLists) → k < length finished → IsFinished u.theta u.grid js (get_or gathers k no_gather) (get_or finished k d)
     finished_at k d within = are.each k d within no_gather
 
-    pub all_lists : AreListsOf u js (flat_map (λ r. r.lists.groups) finished)
+    pub all_lists : AreListsOf u js js (flat_map (λ r. r.lists.groups) finished)
     all_lists = record {
       all =
           let dealt : IsPermutation js (flat_map (particles_of u.grid js) (range_with_len 0 (rank_count u.grid))) = dealt_out (λ (j : Particle). owner u.grid js j.at) (rank_count u.grid) (λ j. laws.owners u.grid js j.at division) js in
@@ -380,7 +380,7 @@ module _ (laws : Laws) (g : Division) (t : Criterion) (limit : ℕ) (js : List P
   finished_for : (finished : List RankLists) → AreFinished t g js gathers finished → AreFinished u.theta u.grid js gathers finished
   finished_for finished are = subst (λ (h : Division). AreFinished u.theta h js gathers finished) (sym by.grid) (subst (λ (c : Criterion). AreFinished c g js gathers finished) (sym by.theta) are)
 
-  pub lists_for_run : (finished : List RankLists) → AreFinished t g js gathers finished → AreListsOf u js (flat_map (λ r. r.lists.groups) finished)
+  pub lists_for_run : (finished : List RankLists) → AreFinished t g js gathers finished → AreListsOf u js js (flat_map (λ r. r.lists.groups) finished)
   lists_for_run finished are = all_lists laws u js gathers divided ready_for ready.up finished (finished_for finished are)
 
   pub lines_for_run : (finished : List RankLists) → AreFinished t g js gathers finished → map (λ r. r.line) finished ≡ map (rank_counts u js) (ranks u)

@@ -1,4 +1,5 @@
 pub mod BuildLemmas
+pub mod KeptLemmas
 pub mod DealLemmas
 pub mod MotionLemmas
 pub mod MoveLemmas

@@ -1,21 +1,19 @@
 -- The parts of a step, joined.
-use Rattle.std.proofs.Common.{◌≡◌, ℕ, ℤ, ◌+◌, ◌%◌, ◌<◌, ◌≤◌, zero, suc, Bool, true, List, [], ◌∷◌, ◌++◌, length, get_or, take, map, Option, Some, None, refl, sym, ◌∙◌, ap, subst, arith, add-one}
-use Rattle.std.specs.Prelude.{Result, Ok, Err, IfOk, unwrap_or, option_map, option_and_then, if◌then◌else◌, IsPermutation}
-use Rattle.std.specs.List.{All}
+use Rattle.std.proofs.Common.{◌≡◌, ◌⊎◌, inl, inr, ℕ, ℤ, ◌+◌, ◌%◌, ◌<◌, ◌≤◌, zero, suc, Bool, true, false, nat_eq, List, [], ◌∷◌, ◌++◌, length, get_or, take, map, Option, Some, None, refl, sym, ◌∙◌, ap, subst, arith, add-one}
+use Rattle.std.specs.Prelude.{Result, Ok, Err, IfOk, option_map, option_and_then, if◌then◌else◌, IsPermutation}
+use Rattle.std.specs.List.{zip}
 use Rattle.std.specs.List.Sorted.{IsStrictlyIncreasing, IsNonDecreasing, IsNonDecreasingBy}
 use Rattle.std.proofs.Math.Seq.{take-append_seam}
 use Rattle.std.proofs.lemmas.Map.Keys.{IsStrictlyIncreasing-from_distinct}
-use Rattle.std.proofs.lemmas.Bool.{eq-eqb}
-use Rattle.std.proofs.lemmas.List.{length-map, get_or-map, get_or_default}
-use Rattle.std.proofs.lemmas.List.Elements.{All-head, All-tail}
+use Rattle.std.proofs.lemmas.Bool.{eq-eqb, ne_eqb}
+use Rattle.std.proofs.lemmas.List.{length-map, get_or-map}
 use Rattle.std.proofs.lemmas.List.Sorted.{length_permutation}
 use Rattle.kern_tree.specs.declared.kernel.Kernel.{Kernel}
 use Rattle.pf_geom.specs.declared.edge.Edge.{Edge}
-use Rattle.pf_geom.specs.Position.{Position}
 use Rattle.pf_model.specs.declared.limits.TheConstants.{MOST_GROUP, MOST_PARTICLES}
 use Rattle.pf_model.specs.Criterion.{Criterion}
 use Rattle.pf_model.specs.Division.{Division}
-use Rattle.pf_model.specs.Domains.{owner, owner_by, cuts_for}
+use Rattle.pf_model.specs.Domains.{owner, owner_by}
 use Rattle.pf_model.specs.Order.{first_some}
 use Rattle.pf_model.specs.Particle.{Particle}
 use Rattle.pf_model.specs.IdLaws.{OrdersByIdAreOne}
@@ -28,22 +26,29 @@ use Rattle.run_model.specs.declared.step_text.RankLine.{RankLine}
 use Rattle.run_model.specs.declared.step_text.StepText.{StepText}
 use Rattle.run_model.specs.Force.{acc_place, first_given, force_row}
 use Rattle.run_model.specs.Setup.{Setup}
-use Rattle.run_model.specs.Run.{WithForces, State, Stop, as_built, list_for, with_forces, moved, moved_body, kicked_again, is_build, lists_fault, forces_fault, move_fault, kick_fault, fault_at_start, fault_after, state_at_start, state_after, unless_stopped, state, first_fault}
+use Rattle.run_model.specs.Run.{WithForces, State, Stop, as_built, built_at, list_for, with_forces, moved_body, kicked_again, is_build, lists_fault, forces_fault, move_fault, kick_fault, fault_at_start, fault_after, state_at_start, state_after, unless_stopped, state, first_fault}
 use Rattle.run_model.specs.Text.{told, ranks as all_ranks, rank_counts, body_row}
+use Rattle.rank_step.specs.declared.course.Course.{Course}
 use Rattle.rank_step.specs.declared.fault.StepFault.{StepFault}
 use Rattle.rank_step.specs.declared.fault.StepFault.TheVariants as faults
-use Rattle.rank_step.specs.Answers.{StopsAt, StopsBy}
-use Rattle.rank_step.specs.Build.{AreListsOf, IsTooMany}
+use Rattle.rank_step.specs.declared.last_build.LastBuild.{LastBuild}
 use Rattle.rank_step.specs.declared.motion.Motion.{Motion}
+use Rattle.rank_step.specs.Answers.{StopsAt, StopsBy}
+use Rattle.rank_step.specs.Build.{AreListsOf, BuildsBy, IsTooMany}
+use Rattle.rank_step.specs.LastBuild.{AreKeptSince, IsBuildOf, IsLastBefore, IsLastFor, built_from, owners_of}
 use Rattle.rank_step.specs.Moves.{MovesBy}
-use Rattle.rank_step.specs.Taken.{Takes, TakesBy, TakesFrom, taking_fault, without_forces}
-use Rattle.rank_step.specs.Told.{Reaches, row_with, text_with}
+use Rattle.rank_step.specs.Ranks.{HaveTogether, as_now, held_now, with_owners}
+use Rattle.rank_step.specs.Trees.{BeginAsKept}
 use Rattle.multisection.specs.Regions.{Regions, regions_of}
+use Rattle.refresh_phase.specs.Kept.{AreKept, RankKept}
+use Rattle.refresh_phase.specs.Laws.{AreAsBuilt}
+use Rattle.tree_phase.specs.declared.rank_lists.RankLists.{RankLists}
+use Rattle.tree_phase.specs.declared.rank_tree.RankTree.{RankTree}
+use Rattle.rank_step.specs.Taken.{Takes, TakesFrom, taking_fault, without_forces}
+use Rattle.rank_step.specs.Told.{Reaches, row_with, text_with}
+use Rattle.rank_step.specs.World.{Follows, IsBefore, IsSound, IsStanding, StandsFor, Standing, Steps}
 use Rattle.exchange.specs.States.{Holding}
-use Rattle.rank_step.specs.Ranks.{HaveTogether, held_now, with_owners}
-use Rattle.rank_step.specs.World.{Standing, IsStanding, IsSound, IsBefore, AreRanksBefore, StandsFor, Steps}
-use Rattle.rank_step.proofs.DealLemmas.{id_order}
-use Rattle.rank_step.proofs.NowLemmas.{finds, together_now}
+use Rattle.rank_step.proofs.NowLemmas.{all_now, together_now}
 use Rattle.rank_step.proofs.OrderLemmas.{Ascend, ascend, by_id-ascending, distinct-ascending}
 
 -- ---- one fault after another
@@ -75,29 +80,39 @@ same_stops a b fault e h = subst (λ (o : Option Stop). StopsAt o fault) e h
 
 -- ---- particles
 
--- a run by these
-unfoldable pub run_by : Kernel → Division → Criterion → ℕ → ℕ → Setup
-run_by k g t limit dt = record {
-  kernel = k;
+-- a run that follows a course
+unfoldable pub run_of : Course → Setup
+run_of c = record {
+  kernel = c.kernel;
   particles = [];
-  grid = g;
-  theta = t;
-  group = limit;
+  grid = c.grid;
+  theta = c.theta;
+  group = c.group;
   steps = 0;
-  dt = dt;
-  reuse = 1;
+  dt = c.dt;
+  reuse = c.reuse;
 }
 
-pub lists_have_bodies : DistinctIdsIgnoreOrder → (u : Setup) (now : List Particle) (lists : List GroupList) → AreListsOf u now lists → AreBodies now → AreBodies (bodies_in lists)
-lists_have_bodies keep u now lists are h = record {
+pub run_follows : (c : Course) → Follows c (run_of c)
+unfolding run_of
+run_follows c = record { kernel = refl; grid = refl; theta = refl; group = refl; dt = refl; reuse = refl }
+
+pub builds_by : (c : Course) (u : Setup) → Follows c u → BuildsBy c.grid c.theta c.group u
+builds_by c u f = record { grid = f.grid; theta = f.theta; group = f.group }
+
+pub builds_with : (c : Course) (u : Setup) → Follows c u → (limit : ℕ) → limit ≡ c.group → BuildsBy c.grid c.theta limit u
+builds_with c u f limit same = record { grid = f.grid; theta = f.theta; group = f.group ∙ sym same }
+
+pub lists_have_bodies : DistinctIdsIgnoreOrder → (u : Setup) (built now : List Particle) (lists : List GroupList) → AreListsOf u built now lists → AreBodies now → AreBodies (bodies_in lists)
+lists_have_bodies keep u built now lists are h = record {
   few = (let same = length_permutation now (bodies_in lists) are.all in let few = h.few in omega (arith, same, few));
   distinct = keep now (bodies_in lists) are.all h.distinct;
 }
 
-pub takes_from : (u : Setup) (k : Kernel) (g : Division) (t : Criterion) (limit : ℕ) (now : List Particle) (lists : List GroupList) → TakesBy k g t limit u → (edge : Edge) → edge ≡ t.edge → AreListsOf u now lists → TakesFrom k edge now lists u
-takes_from u k g t limit now lists takes edge same are = record {
-  kernel = takes.kernel;
-  edge = ap (λ (c : Criterion). c.edge) takes.builds.theta ∙ sym same;
+pub takes_from : (c : Course) (u : Setup) → Follows c u → (kernel : Kernel) → kernel ≡ c.kernel → (edge : Edge) → edge ≡ c.theta.edge → (built now : List Particle) (lists : List GroupList) → AreListsOf u built now lists → TakesFrom kernel edge built now lists u
+takes_from c u follows kernel runs edge same built now lists are = record {
+  kernel = follows.kernel ∙ sym runs;
+  edge = ap (λ (t : Criterion). t.edge) follows.theta ∙ sym same;
   lists = are;
 }
 
@@ -117,8 +132,8 @@ forced_ids : (f : Particle → List ℤ) (now : List Particle) → map (λ (b : 
 forced_ids f [] = refl
 forced_ids f (p ∷ ps) = ap (λ rest. p.id ∷ rest) (forced_ids f ps)
 
-pub with_forces_ids : (u : Setup) (now : List Particle) → map (λ (b : WithForces). b.body.id) (with_forces u now now) ≡ map (λ (p : Particle). p.id) now
-with_forces_ids u now = forced_ids (λ i. force_row u.theta.edge u.kernel (list_for u now now i) i) now
+pub with_forces_ids : (u : Setup) (built now : List Particle) → map (λ (b : WithForces). b.body.id) (with_forces u built now) ≡ map (λ (p : Particle). p.id) now
+with_forces_ids u built now = forced_ids (λ i. force_row u.theta.edge u.kernel (list_for u built now i) i) now
 
 pub fresh_ids : (now : List Particle) → map (λ (b : WithForces). b.body.id) (map without_forces now) ≡ map (λ (p : Particle). p.id) now
 fresh_ids now = forced_ids (λ p. []) now
@@ -126,46 +141,6 @@ fresh_ids now = forced_ids (λ p. []) now
 pub fresh_bodies : (now : List Particle) → map (λ (b : WithForces). b.body) (map without_forces now) ≡ now
 fresh_bodies [] = refl
 fresh_bodies (p ∷ ps) = ap (λ rest. p ∷ rest) (fresh_bodies ps)
-
--- where particles are
-body_place : WithForces → ℕ × Position
-body_place b = (b.body.id, b.body.at)
-
-particle_place : Particle → ℕ × Position
-particle_place p = (p.id, p.at)
-
-forced_places : (f : Particle → List ℤ) (now : List Particle) → map body_place (map (λ (p : Particle). record { body = p; forces = f p }) now) ≡ map particle_place now
-unfolding body_place particle_place
-forced_places f [] = refl
-forced_places f (p ∷ ps) = ap {A = List (ℕ × Position)} (λ rest. (p.id, p.at) ∷ rest) (forced_places f ps)
-
-with_forces_places : (u : Setup) (now : List Particle) → map body_place (with_forces u now now) ≡ map particle_place now
-with_forces_places u now = forced_places (λ i. force_row u.theta.edge u.kernel (list_for u now now i) i) now
-
-kicked_places : (u : Setup) (bodies : List WithForces) → map body_place (map (kicked_again u) bodies) ≡ map body_place bodies
-unfolding body_place
-kicked_places u [] = refl
-kicked_places u (b ∷ bs) = ap {A = List (ℕ × Position)} (λ rest. (b.body.id, b.body.at) ∷ rest) (kicked_places u bs)
-
--- particles of a build that are where they were
-stand_still : (built : List Particle) → Ascend built → (bodies : List WithForces) → map body_place bodies ≡ map particle_place built → All (λ b. (as_built built b.body).at ≡ b.body.at) bodies
-unfolding body_place particle_place
-stand_still built up bodies same k d within =
-    let b = get_or bodies k d in
-    let nowhere : ℕ × Position = (0, record { x = 0; y = 0; z = 0 }) in
-    let count = ap length same in
-    let long = length-map bodies body_place in
-    let longer = length-map built particle_place in
-    let here : k < length built = omega arith in
-    let p = get_or built k b.body in
-    let place : (b.body.id, b.body.at) ≡ (p.id, p.at) =
-    sym (get_or-map body_place bodies k d nowhere within) ∙ ap (λ (l : List (ℕ × Position)). get_or l k nowhere) same ∙ get_or-map particle_place built k b.body nowhere here in
-    let found = finds b.body.id k built b.body
-    (λ i e below. (let less = id_order built up i k e below here in
-    let there : (get_or built k e).id ≡ p.id = ap (λ (q : Particle). q.id) (get_or_default built k e b.body here) in
-    let id : b.body.id ≡ p.id = ap (λ (v : ℕ × Position). v.0) place in
-    omega arith)) here (sym (ap (λ (v : ℕ × Position). v.0) place)) in
-    ap (λ (o : Option Particle). (unwrap_or o b.body).at) found ∙ sym (ap (λ (v : ℕ × Position). v.1) place)
 
 -- particles with the ids of those of a world
 module _ (group : ℕ) (bodies : List WithForces) (standing : IsStanding group bodies) where
@@ -191,216 +166,209 @@ module _ (group : ℕ) (bodies : List WithForces) (standing : IsStanding group b
     ascending = subst IsStrictlyIncreasing (sym e) standing.ascending;
   }
 
--- the ranks of a world have together its particles where they are now
-pub ranks_now : (g : Division) (group : ℕ) (bodies : List WithForces) (ranks : List Holding) → IsSound g group bodies ranks → (now : List Particle) → map (λ p. p.id) now ≡ map (λ b. b.body.id) bodies →
-    (lent after : List Holding) → lent ≡ ranks → after ≡ map (held_now now) lent → HaveTogether g now after
-ranks_now g group bodies ranks sound now ids lent after of is =
-    subst (HaveTogether g now) (sym (is ∙ ap (map (held_now now)) of))
-    (together_now g now sound.as_built.built ranks (ascend now (ids_ascend group bodies sound.standing now ids)) (sound.as_built.same ∙ sym ids) sound.as_built.together)
+-- the ranks of the last build have together its particles where they are now
+pub ranks_now : (g : Division) (built now : List Particle) (ranks after : List Holding) → IsStrictlyIncreasing (map (λ p. p.id) now) → map (λ p. p.id) built ≡ map (λ p. p.id) now → HaveTogether g built ranks → after ≡ map (held_now now) ranks → HaveTogether g now after
+ranks_now g built now ranks after up same together is =
+    subst (HaveTogether g now) (sym is) (together_now g now built ranks (ascend now up) same together)
 
-pub sound_after : (g : Division) (group : ℕ) (bodies : List WithForces) (ranks : List Holding) → IsSound g group bodies ranks → (now : List Particle) → map (λ p. p.id) now ≡ map (λ b. b.body.id) bodies →
-    (after : List WithForces) → map (λ b. b.body.id) after ≡ map (λ p. p.id) now → (to : List Holding) → HaveTogether g now to → IsSound g group after to
-sound_after g group bodies ranks sound now ids after same to together = record {
-  standing = stands_on group bodies sound.standing after (same ∙ ids);
-  as_built = record { built = now; same = sym same; together = together };
-}
+-- where a step builds, it keeps lists for those without a build that may come
+pub last_of_build : (c : Course) (due : ℕ) (now : List Particle) (last : LastBuild) → last.bodies.items ≡ now → HaveTogether c.grid now last.ranks.items → (c.reuse ≡ 1) ⊎ AreKeptSince c.group c.theta c.grid now last.kept.items →
+    IsLastFor c.grid c.theta c.group c.reuse due (map (λ p. p.id) now) last
+last_of_build c due now last is together kept = record {
+  same = ap (map (λ (p : Particle). p.id)) is;
+  together = subst (λ js. HaveTogether c.grid js last.ranks.items) (sym is) together;
+  kept = kept_of kept;
+} where
+  kept_of : (c.reuse ≡ 1) ⊎ AreKeptSince c.group c.theta c.grid now last.kept.items → (due % c.reuse ≡ 0) ⊎ AreKeptSince c.group c.theta c.grid last.bodies.items last.kept.items
+  kept_of (inl once) = inl (rw once (omega arith))
+  kept_of (inr kept) = inr (subst (λ js. AreKeptSince c.group c.theta c.grid js last.kept.items) (sym is) kept)
+
+-- what is kept of a build
+pub kept_since : (c : Course) (limit : ℕ) → limit ≡ c.group → (reuse : ℕ) → reuse ≡ c.reuse → (js now : List Particle) (trees : List RankTree) (lists : List RankLists) (kept : List RankKept) → js ≡ now →
+    BeginAsKept limit c.theta c.grid js trees lists → (reuse ≡ 1) ⊎ AreAsBuilt trees lists kept → (c.reuse ≡ 1) ⊎ AreKeptSince c.group c.theta c.grid now kept
+kept_since c limit of_group reuse of_reuse js now trees lists kept same begin (inl once) = inl (sym of_reuse ∙ once)
+kept_since c limit of_group reuse of_reuse js now trees lists kept same begin (inr are) =
+    inr (now, subst (λ (n : ℕ). AreKept n c.theta c.grid now now kept) of_group (subst (λ ps. AreKept limit c.theta c.grid ps ps kept) same (begin kept are)))
+
+-- the owners of a build, and its ranks
+pub build_of : (u : Setup) (g : Division) (js now : List Particle) (d : Regions) (last : LastBuild) → u.grid ≡ g → js ≡ now → d ≡ regions_of g js → last.bodies.items ≡ now → last.owners.items ≡ map (λ p. owner_by d.cuts p.at) js → last.ranks.items ≡ with_owners g js →
+    IsBuildOf u last
+unfolding owner
+build_of u g js now d last grid same regions is owners ranks = record {
+  owners = owners ∙ ap (λ (r : Regions). map (λ p. owner_by r.cuts p.at) js) regions ∙ (λ i. owners_of (sym grid i) (at i));
+  ranks = ranks ∙ (λ i. with_owners (sym grid i) (at i));
+} where
+  at : js ≡ last.bodies.items
+  at = same ∙ sym is
+
+-- where a build is due
+pub builds_here : (u : Setup) (c : Course) (due : ℕ) → Follows c u → due % c.reuse ≡ 0 → is_build u due ≡ true
+builds_here u c due f e = ap (λ (n : ℕ). nat_eq (due % n) 0) f.reuse ∙ eq-eqb (due % c.reuse) 0 e
+
+pub built_here : (reuse due : ℕ) (now was : List Particle) → due % reuse ≡ 0 → built_from reuse due now was ≡ now
+built_here reuse due now was e = ap (λ b. if b then now else was) (eq-eqb (due % reuse) 0 e)
+
+pub builds_later : (u : Setup) (c : Course) (due : ℕ) → Follows c u → (due % c.reuse ≡ 0 → ⊥) → is_build u due ≡ false
+builds_later u c due f other = ap (λ (n : ℕ). nat_eq (due % n) 0) f.reuse ∙ ne_eqb (due % c.reuse) 0 other
+
+pub built_later : (reuse due : ℕ) (now was : List Particle) → (due % reuse ≡ 0 → ⊥) → built_from reuse due now was ≡ was
+built_later reuse due now was other = ap (λ b. if b then now else was) (ne_eqb (due % reuse) 0 other)
 
 -- what two clauses say of one answer
 pub both_ok : {X E : Type 0} (P Q : X → Type 0) (r : Result X E) → IfOk r P → IfOk r Q → IfOk r (λ x. P x × Q x)
 both_ok P Q (Ok x) p q = (p, q)
 both_ok P Q (Err e) p q = tt
 
-pub map_body_ids : (bodies : List WithForces) (now : List Particle) → now ≡ map (λ b. b.body) bodies → map (λ (p : Particle). p.id) now ≡ map (λ (b : WithForces). b.body.id) bodies
-map_body_ids bodies now e = ap (map (λ (p : Particle). p.id)) e ∙ map_ids bodies
+-- what a step reaches, where its last build is of these particles
+pub reaches : (u : Setup) (s : ℕ) (bodies : List WithForces) (lines : List RankLine) (last : LastBuild) (built : List Particle) → last.bodies.items ≡ built → first_fault u s ≡ None → state u s ≡ Some (record { bodies = bodies; built = built }) →
+    lines ≡ map (rank_counts u built) (all_ranks u) → IsBuildOf u last → Reaches u s bodies lines last
+reaches u s bodies lines last built is none at counts build = record {
+  no_fault = none;
+  state = at ∙ ap (λ (js : List Particle). Some (record { bodies = bodies; built = js })) (sym is);
+  counts = counts ∙ ap (λ (js : List Particle). map (rank_counts u js) (all_ranks u)) (sym is);
+  build = build;
+}
 
 -- ---- step 0
 
-pub start_stops : (u : Setup) (read : List Particle) (fault : StepFault) → read ≡ by_id u.particles → StopsAt (taking_fault u read) fault → StopsBy u 0 fault
+pub start_stops : (u : Setup) (read : List Particle) (fault : StepFault) → read ≡ by_id u.particles → StopsAt (taking_fault u true read read) fault → StopsBy u 0 fault
 unfolding first_fault
-start_stops u read fault e h = same_stops (taking_fault u read) (fault_at_start u) fault (ap (taking_fault u) e) h
+start_stops u read fault e h = same_stops (taking_fault u true read read) (fault_at_start u) fault (ap (λ js. taking_fault u true js js) e) h
 
 state_from : Setup → List Particle → State
 state_from u read = record { bodies = with_forces u read read; built = read }
 
-pub start_reaches : (u : Setup) (read : List Particle) (bodies : List WithForces) (lines : List RankLine) (d : Regions) (ranks : List Holding) → read ≡ by_id u.particles → Ascend read → Takes u read bodies lines d ranks →
-    Reaches u 0 bodies lines d ranks
+pub start_reaches : (u : Setup) (read : List Particle) (bodies : List WithForces) (lines : List RankLine) (last : LastBuild) → read ≡ by_id u.particles → Takes u true read read bodies lines → last.bodies.items ≡ read → IsBuildOf u last →
+    Reaches u 0 bodies lines last
 unfolding state first_fault state_from
-start_reaches u read bodies lines d ranks e up takes =
-    let no_fault : fault_at_start u ≡ None = ap (taking_fault u) (sym e) ∙ takes.no_fault in
-    record {
-      no_fault = no_fault;
-      built = read;
-      state =
-          ap (λ o. unless_stopped o (state_at_start u)) no_fault ∙ ap (λ r. Some (state_from u r)) (sym e) ∙ ap (λ (bs : List WithForces). Some (record { bodies = bs; built = read })) (sym takes.forces);
-      unmoved = stand_still read up bodies (ap (map body_place) takes.forces ∙ with_forces_places u read);
-      counts = takes.counts;
-      domains = takes.domains;
-      owners = takes.owners;
-    }
+start_reaches u read bodies lines last e takes is build =
+    let no_fault : fault_at_start u ≡ None = ap (λ js. taking_fault u true js js) (sym e) ∙ takes.no_fault in
+    reaches u 0 bodies lines last read is no_fault
+    (ap (λ o. unless_stopped o (state_at_start u)) no_fault ∙ ap (λ r. Some (state_from u r)) (sym e) ∙ ap (λ (bs : List WithForces). Some (record { bodies = bs; built = read })) (sym takes.forces))
+    takes.counts build
 
 -- ---- a step past 0
 
--- the first fault of a step that makes its lists anew
-rebuilt_fault : Setup → List WithForces → Option Stop
-rebuilt_fault u bodies =
+-- the first fault of a step after these particles, with a build or without, over the particles of the last build
+next_fault : Setup → Bool → List Particle → List WithForces → Option Stop
+next_fault u b built bodies =
     let now = map (moved_body u) bodies in
-    first_some (first_given (move_fault u) bodies) (first_some (taking_fault u now) (first_given (kick_fault u) (with_forces u now now)))
+    first_some (first_given (move_fault u) bodies) (first_some (taking_fault u b built now) (first_given (kick_fault u) (with_forces u built now)))
 
-fault_if : Setup → State → Bool → Option Stop
-fault_if u before b =
-    let now = moved u before in
-    let built = if b then now else before.built in
-    first_some (first_given (move_fault u) before.bodies) (first_some (if b then lists_fault u built else None) (first_some (first_given (forces_fault u built now) now) (first_given (kick_fault u) (with_forces u built now))))
+abbrev next_built : Setup → ℕ → List WithForces → List Particle → List Particle
+next_built u due bodies was = built_at u due (record { bodies = bodies; built = was })
 
-state_if : Setup → State → Bool → State
-state_if u before b =
-    let built = if b then moved u before else before.built in
-    record { bodies = map (kicked_again u) (with_forces u built (moved u before)); built = built }
-
-module _ (u : Setup) (s : ℕ) (before : State) (once : u.reuse ≡ 1) (at : state u s ≡ Some before) where
-  builds : is_build u (suc s) ≡ true
-  builds = eq-eqb (suc s % u.reuse) 0 (rw once (omega arith))
-
-  fault_is : fault_after u (suc s) before ≡ rebuilt_fault u before.bodies
-  unfolding fault_if rebuilt_fault
-  fault_is =
-      ap (fault_if u before) builds
-      ∙ ap (first_some (first_given (move_fault u) before.bodies)) (sym (first_of_three (lists_fault u (moved u before)) (first_given (forces_fault u (moved u before) (moved u before)) (moved u before)) (first_given (kick_fault u) (with_forces u (moved u before) (moved u before)))))
-
-  first_is : first_fault u (suc s) ≡ rebuilt_fault u before.bodies
-  unfolding first_fault
-  first_is = ap (option_and_then (fault_after u (suc s))) at ∙ fault_is
-
-  state_is : rebuilt_fault u before.bodies ≡ None → state u (suc s) ≡ Some (state_if u before true)
-  unfolding state state_if
-  state_is none =
-      ap (option_and_then (λ b. unless_stopped (fault_after u (suc s) b) (state_after u (suc s) b))) at
-      ∙ ap (λ o. unless_stopped o (state_after u (suc s) before)) (fault_is ∙ none)
-      ∙ ap (λ b. Some (state_if u before b)) builds
-
-next_first : (u : Setup) (due : ℕ) (bodies : List WithForces) → u.reuse ≡ 1 → 1 ≤ due → IsBefore u due bodies → first_fault u due ≡ rebuilt_fault u bodies
-next_first u zero bodies once later before = absurd (omega arith)
-next_first u (suc s) bodies once later before = first_is u s (record { bodies = bodies; built = before.0 }) once before.1
-
-rebuilt_state : Setup → List WithForces → State
-rebuilt_state u bodies =
+next_first : (u : Setup) (due : ℕ) (bodies : List WithForces) (was : List Particle) → 1 ≤ due → IsBefore u due bodies was → first_fault u due ≡ next_fault u (is_build u due) (next_built u due bodies was) bodies
+unfolding first_fault next_fault
+next_first u zero bodies was later before = absurd (omega arith)
+next_first u (suc s) bodies was later before =
     let now = map (moved_body u) bodies in
-    record { bodies = map (kicked_again u) (with_forces u now now); built = now }
+    let built = next_built u (suc s) bodies was in
+    ap (option_and_then (fault_after u (suc s))) before
+    ∙ ap (first_some (first_given (move_fault u) bodies)) (sym (first_of_three (if is_build u (suc s) then lists_fault u built else None) (first_given (forces_fault u built now) now) (first_given (kick_fault u) (with_forces u built now))))
 
-next_state : (u : Setup) (due : ℕ) (bodies : List WithForces) → u.reuse ≡ 1 → 1 ≤ due → IsBefore u due bodies → rebuilt_fault u bodies ≡ None → state u due ≡ Some (rebuilt_state u bodies)
-unfolding state_if rebuilt_state
-next_state u zero bodies once later before none = absurd (omega arith)
-next_state u (suc s) bodies once later before none = state_is u s (record { bodies = bodies; built = before.0 }) once before.1 none
+next_state : (u : Setup) (due : ℕ) (bodies : List WithForces) (was : List Particle) → 1 ≤ due → IsBefore u due bodies was → first_fault u due ≡ None → state u due ≡ Some (state_after u due (record { bodies = bodies; built = was }))
+unfolding state first_fault
+next_state u zero bodies was later before none = absurd (omega arith)
+next_state u (suc s) bodies was later before none =
+    ap (option_and_then (λ b. unless_stopped (fault_after u (suc s) b) (state_after u (suc s) b))) before
+    ∙ ap (λ o. unless_stopped o (state_after u (suc s) (record { bodies = bodies; built = was }))) (sym (ap (option_and_then (fault_after u (suc s))) before) ∙ none)
 
-module _ (u : Setup) (due : ℕ) (bodies : List WithForces) (once : u.reuse ≡ 1) (later : 1 ≤ due) (before : IsBefore u due bodies) where
+module _ (u : Setup) (due : ℕ) (bodies : List WithForces) (was : List Particle) (later : 1 ≤ due) (before : IsBefore u due bodies was) where
   pub move_stops : (fault : StepFault) → StopsAt (first_given (move_fault u) bodies) fault → StopsBy u due fault
-  unfolding rebuilt_fault
+  unfolding next_fault
   move_stops fault h =
-      same_stops (rebuilt_fault u bodies) (first_fault u due) fault (sym (next_first u due bodies once later before)) (stops_first (first_given (move_fault u) bodies) _ fault h)
+      same_stops (next_fault u (is_build u due) (next_built u due bodies was) bodies) (first_fault u due) fault (sym (next_first u due bodies was later before)) (stops_first (first_given (move_fault u) bodies) _ fault h)
 
-  module _ (now : List Particle) (now_is : now ≡ map (moved_body u) bodies) (moves : first_given (move_fault u) bodies ≡ None) where
-    rebuilt_from : rebuilt_fault u bodies ≡ first_some (taking_fault u now) (first_given (kick_fault u) (with_forces u now now))
-    unfolding rebuilt_fault
-    rebuilt_from =
-        ap (λ o. first_some o (first_some (taking_fault u (map (moved_body u) bodies)) (first_given (kick_fault u) (with_forces u (map (moved_body u) bodies) (map (moved_body u) bodies))))) moves
-        ∙ ap (λ js. first_some (taking_fault u js) (first_given (kick_fault u) (with_forces u js js))) (sym now_is)
+  module _ (now : List Particle) (now_is : now ≡ map (moved_body u) bodies) (moves : first_given (move_fault u) bodies ≡ None) (reuse : ℕ) (reused : u.reuse ≡ reuse) where
+    built_is : built_from reuse due now was ≡ next_built u due bodies was
+    built_is = (λ i. if nat_eq (due % sym reused i) 0 then now_is i else was)
 
-    first_from : first_some (taking_fault u now) (first_given (kick_fault u) (with_forces u now now)) ≡ first_fault u due
-    first_from = sym rebuilt_from ∙ sym (next_first u due bodies once later before)
+    rest : Option Stop
+    rest = first_some (taking_fault u (is_build u due) (built_from reuse due now was) now) (first_given (kick_fault u) (with_forces u (built_from reuse due now was) now))
 
-    pub taking_stops : (fault : StepFault) → StopsAt (taking_fault u now) fault → StopsBy u due fault
-    taking_stops fault h = same_stops _ (first_fault u due) fault first_from (stops_first (taking_fault u now) (first_given (kick_fault u) (with_forces u now now)) fault h)
+    rest_by : List Particle → List Particle → Option Stop
+    rest_by js ks = first_some (taking_fault u (is_build u due) js ks) (first_given (kick_fault u) (with_forces u js ks))
 
-    module _ (takes : taking_fault u now ≡ None) where
-      pub kick_stops : (fault : StepFault) → StopsAt (first_given (kick_fault u) (with_forces u now now)) fault → StopsBy u due fault
-      kick_stops fault h = same_stops _ (first_fault u due) fault first_from (stops_later (taking_fault u now) (first_given (kick_fault u) (with_forces u now now)) fault takes h)
+    first_from : rest ≡ first_fault u due
+    unfolding rest rest_by next_fault
+    first_from =
+        (λ i. rest_by (built_is i) (now_is i))
+        ∙ sym (ap (λ o. first_some o (rest_by (next_built u due bodies was) (map (moved_body u) bodies))) moves)
+        ∙ sym (next_first u due bodies was later before)
 
-      pub next_reaches : (after : List WithForces) (lines : List RankLine) (d : Regions) (ranks : List Holding) → first_given (kick_fault u) (with_forces u now now) ≡ None → Ascend now → after ≡ map (kicked_again u) (with_forces u now now) →
-          lines ≡ map (rank_counts u now) (all_ranks u) → d ≡ regions_of u.grid now → ranks ≡ with_owners u.grid now → Reaches u due after lines d ranks
-      unfolding rebuilt_state
-      next_reaches after lines d ranks kicks up is counts domains owners =
-          let none = none_of_both (taking_fault u now) (first_given (kick_fault u) (with_forces u now now)) takes kicks in
-          record {
-            no_fault = sym first_from ∙ none;
-            built = now;
-            state =
-                next_state u due bodies once later before (rebuilt_from ∙ none)
-                ∙ ap (λ (js : List Particle). Some (record { bodies = map (kicked_again u) (with_forces u js js); built = js })) (sym now_is)
-                ∙ ap (λ (bs : List WithForces). Some (record { bodies = bs; built = now })) (sym is);
-            unmoved = stand_still now up after (ap (map body_place) is ∙ kicked_places u (with_forces u now now) ∙ with_forces_places u now);
-            counts = counts;
-            domains = domains;
-            owners = owners;
-          }
+    pub taking_stops : (fault : StepFault) → StopsAt (taking_fault u (is_build u due) (built_from reuse due now was) now) fault → StopsBy u due fault
+    unfolding rest
+    taking_stops fault h = same_stops _ (first_fault u due) fault first_from (stops_first (taking_fault u (is_build u due) (built_from reuse due now was) now) (first_given (kick_fault u) (with_forces u (built_from reuse due now was) now)) fault h)
+
+    module _ (takes : taking_fault u (is_build u due) (built_from reuse due now was) now ≡ None) where
+      pub kick_stops : (fault : StepFault) → StopsAt (first_given (kick_fault u) (with_forces u (built_from reuse due now was) now)) fault → StopsBy u due fault
+      unfolding rest
+      kick_stops fault h = same_stops _ (first_fault u due) fault first_from (stops_later (taking_fault u (is_build u due) (built_from reuse due now was) now) (first_given (kick_fault u) (with_forces u (built_from reuse due now was) now)) fault takes h)
+
+      pub next_reaches : (after : List WithForces) (lines : List RankLine) (last : LastBuild) → first_given (kick_fault u) (with_forces u (built_from reuse due now was) now) ≡ None → after ≡ map (kicked_again u) (with_forces u (built_from reuse due now was) now) →
+          lines ≡ map (rank_counts u (built_from reuse due now was)) (all_ranks u) → last.bodies.items ≡ built_from reuse due now was → IsBuildOf u last → Reaches u due after lines last
+      unfolding rest
+      next_reaches after lines last kicks is counts of build =
+          let none : rest ≡ None = none_of_both (taking_fault u (is_build u due) (built_from reuse due now was) now) (first_given (kick_fault u) (with_forces u (built_from reuse due now was) now)) takes kicks in
+          let no_fault = sym first_from ∙ none in
+          reaches u due after lines last (built_from reuse due now was) of no_fault
+          (next_state u due bodies was later before no_fault
+          ∙ (λ i. Some (record { bodies = map (kicked_again u) (with_forces u (sym built_is i) (sym now_is i)); built = sym built_is i }))
+          ∙ ap (λ (bs : List WithForces). Some (record { bodies = bs; built = built_from reuse due now was })) (sym is))
+          counts build
 
 -- ---- a world
+
+-- a world of these
+abbrev pub world_of : Course → ℕ → List WithForces → LastBuild → Standing
+world_of c due bodies last = record {
+  kernel = c.kernel;
+  grid = c.grid;
+  theta = c.theta;
+  group = c.group;
+  dt = c.dt;
+  reuse = c.reuse;
+  due = due;
+  bodies = bodies;
+  last = last;
+}
 
 -- the fields of a world are those of what clauses see
 pub stands_within : (inside w : Standing) (u : Setup) → inside ≡ w → StandsFor w u → StandsFor inside u
 stands_within inside w u view h = subst (λ (v : Standing). StandsFor v u) (sym view) h
 
-pub sound_of : (inside w : Standing) → inside ≡ w → IsSound inside.grid inside.group inside.bodies inside.ranks → IsSound w.grid w.group w.bodies w.ranks
-sound_of inside w view h = subst (λ (v : Standing). IsSound v.grid v.group v.bodies v.ranks) view h
+pub follows : (c : Course) (due : ℕ) (bodies : List WithForces) (last : LastBuild) (u : Setup) → StandsFor (world_of c due bodies last) u → Follows c u
+follows c due bodies last u s = record { kernel = s.kernel; grid = s.grid; theta = s.theta; group = s.group; dt = s.dt; reuse = s.reuse }
 
-abbrev pub ids_of : Standing → List ℕ
-ids_of w = map (λ b. b.body.id) w.bodies
-
-pub due_within : (inside w : Standing) (due : ℕ) → inside ≡ w → w.due ≡ due → inside.due ≡ due
-due_within inside w due view e = ap (λ (v : Standing). v.due) view ∙ e
-
-pub takes_within : (inside w : Standing) (u : Setup) → inside ≡ w → TakesBy w.kernel w.grid w.theta w.group u → TakesBy inside.kernel inside.grid inside.theta inside.group u
-takes_within inside w u view h = subst (λ (v : Standing). TakesBy v.kernel v.grid v.theta v.group u) (sym view) h
-
-pub takes_by : (w : Standing) (u : Setup) → StandsFor w u → TakesBy w.kernel w.grid w.theta w.group u
-takes_by w u h = record { kernel = h.kernel; builds = record { grid = h.grid; theta = h.theta; group = h.group } }
-
-pub run_takes : (k : Kernel) (g : Division) (t : Criterion) (limit dt : ℕ) → TakesBy k g t limit (run_by k g t limit dt)
-unfolding run_by
-run_takes k g t limit dt = record { kernel = refl; builds = record { grid = refl; theta = refl; group = refl } }
-
-pub read_from : (now read : List Particle) (lent bodies : List WithForces) → now ≡ read → read ≡ map (λ b. b.body) lent → lent ≡ bodies → now ≡ map (λ b. b.body) bodies
-read_from now read lent bodies same is of = same ∙ is ∙ ap (map (λ (b : WithForces). b.body)) of
-
-pub moved_from : (u : Setup) (now to : List Particle) (lent bodies : List WithForces) → now ≡ to → to ≡ map (moved_body u) lent → lent ≡ bodies → now ≡ map (moved_body u) bodies
-moved_from u now to lent bodies same is of = same ∙ is ∙ ap (map (moved_body u)) of
-
-pub takes_ids : (u : Setup) (now : List Particle) (after : List WithForces) (lines : List RankLine) (d : Regions) (ranks : List Holding) → Takes u now after lines d ranks → map (λ (b : WithForces). b.body.id) after ≡ map (λ (p : Particle). p.id) now
-takes_ids u now after lines d ranks takes = ap (map (λ (b : WithForces). b.body.id)) takes.forces ∙ with_forces_ids u now
-
-read_at_start : (u : Setup) (due : ℕ) (bodies : List WithForces) → due ≡ 0 → IsBefore u due bodies → map (λ b. b.body) bodies ≡ by_id u.particles
-read_at_start u zero bodies start before = before
-read_at_start u (suc s) bodies start before = absurd (omega arith)
-
-module _ (w : Standing) (u : Setup) (stands : StandsFor w u) (start : w.due ≡ 0) (read : List Particle) (is : read ≡ map (λ b. b.body) w.bodies) where
-  as_read : read ≡ by_id u.particles
-  as_read = is ∙ read_at_start u w.due w.bodies start stands.before
-
-  pub first_stops : (fault : StepFault) → StopsAt (taking_fault u read) fault → StopsBy u 0 fault
-  first_stops fault h = start_stops u read fault as_read h
-
-  pub first_reaches : Ascend read → (after : List WithForces) (lines : List RankLine) (d : Regions) (ranks : List Holding) → Takes u read after lines d ranks → Reaches u 0 after lines d ranks
-  first_reaches up after lines d ranks takes = start_reaches u read after lines d ranks as_read up takes
-
-pub moves_by : (m : Motion) (k : Kernel) (t : Criterion) (dt : ℕ) → m.acc_place ≡ acc_place k → m.edge ≡ t.edge → m.dt ≡ dt → (u : Setup) → u.kernel ≡ k → u.theta ≡ t → u.dt ≡ dt → MovesBy m u
-moves_by m k t dt place at_edge timed u kernel theta step = record {
-  place = ap acc_place kernel ∙ sym place;
-  edge = ap (λ (c : Criterion). c.edge) theta ∙ sym at_edge;
-  dt = step ∙ sym timed;
+pub moves_by : (m : Motion) (c : Course) → m.acc_place ≡ acc_place c.kernel → m.edge ≡ c.theta.edge → m.dt ≡ c.dt → (u : Setup) → Follows c u → MovesBy m u
+moves_by m c place at_edge timed u f = record {
+  place = ap acc_place f.kernel ∙ sym place;
+  edge = ap (λ (t : Criterion). t.edge) f.theta ∙ sym at_edge;
+  dt = f.dt ∙ sym timed;
 }
 
-pub takes_in : (inside w : Standing) → inside ≡ w → (dt : ℕ) → TakesBy w.kernel w.grid w.theta w.group (run_by inside.kernel inside.grid inside.theta inside.group dt)
-takes_in inside w view dt =
-    subst (λ (v : Standing). TakesBy v.kernel v.grid v.theta v.group (run_by inside.kernel inside.grid inside.theta inside.group dt)) view (run_takes inside.kernel inside.grid inside.theta inside.group dt)
+pub read_at_start : (u : Setup) (due : ℕ) (bodies : List WithForces) (built : List Particle) → due ≡ 0 → IsBefore u due bodies built → built ≡ by_id u.particles
+read_at_start u zero bodies built start before = before.1
+read_at_start u (suc s) bodies built start before = absurd (omega arith)
 
-pub run_moves : (m : Motion) (k : Kernel) (g : Division) (t : Criterion) (limit dt : ℕ) → m.acc_place ≡ acc_place k → m.edge ≡ t.edge → m.dt ≡ dt → MovesBy m (run_by k g t limit dt)
-unfolding run_by
-run_moves m k g t limit dt place at_edge timed = moves_by m k t dt place at_edge timed (run_by k g t limit dt) refl refl refl
+pub build_before : (u : Setup) (due : ℕ) (last : LastBuild) → 1 ≤ due → IsLastBefore u due last → IsBuildOf u last
+build_before u zero last later before = absurd (omega arith)
+build_before u (suc s) last later before = before
 
 pub map_moved_ids : (u : Setup) (bodies : List WithForces) (now : List Particle) → now ≡ map (moved_body u) bodies → map (λ (p : Particle). p.id) now ≡ map (λ (b : WithForces). b.body.id) bodies
 map_moved_ids u bodies now e = ap (map (λ (p : Particle). p.id)) e ∙ moved_ids u bodies
 
-pub map_kicked_ids : (u : Setup) (now : List Particle) (after : List WithForces) → after ≡ map (kicked_again u) (with_forces u now now) → map (λ (b : WithForces). b.body.id) after ≡ map (λ (p : Particle). p.id) now
-map_kicked_ids u now after e = ap (map (λ (b : WithForces). b.body.id)) e ∙ kicked_ids u (with_forces u now now) ∙ with_forces_ids u now
+pub map_kicked_ids : (u : Setup) (built now : List Particle) (after : List WithForces) → after ≡ map (kicked_again u) (with_forces u built now) → map (λ (b : WithForces). b.body.id) after ≡ map (λ (p : Particle). p.id) now
+map_kicked_ids u built now after e = ap (map (λ (b : WithForces). b.body.id)) e ∙ kicked_ids u (with_forces u built now) ∙ with_forces_ids u built now
+
+pub sound_after : (g : Division) (t : Criterion) (group reuse due : ℕ) (bodies : List WithForces) (last : LastBuild) → IsSound g t group reuse due bodies last → (next : ℕ) (after : List WithForces) (to : LastBuild) →
+    map (λ b. b.body.id) after ≡ map (λ b. b.body.id) bodies → IsLastFor g t group reuse next (map (λ b. b.body.id) bodies) to → IsSound g t group reuse next after to
+sound_after g t group reuse due bodies last sound next after to same keeps = record {
+  standing = stands_on group bodies sound.standing after same;
+  some_steps = sound.some_steps;
+  last_build = subst (λ (ids : List ℕ). IsLastFor g t group reuse next ids to) (sym same) keeps;
+}
 
 -- what is written back into a vector of as many elements
 pub written : {X : Type 0} (n : ℕ) (ys zs : List X) → n ≡ length ys → take n (ys ++ zs) ≡ ys
@@ -435,12 +403,19 @@ module _ (keep : DistinctIdsIgnoreOrder) (read sorted : List Particle) (particle
     ascending = subst IsStrictlyIncreasing (sym (ap (map (λ (b : WithForces). b.body.id)) is ∙ fresh_ids sorted)) sorted_ascend;
   }
 
-  pub opened_sound : (g : Division) (group : ℕ) → 1 ≤ group → group ≤ MOST_GROUP → (bodies : List WithForces) → bodies ≡ map without_forces sorted → (ranks : List Holding) →
-      HaveTogether g sorted ranks → IsSound g group bodies ranks
-  opened_sound g group some most bodies is ranks together = record {
+  pub opened_sound : (g : Division) (t : Criterion) (group reuse : ℕ) → 1 ≤ group → group ≤ MOST_GROUP → 1 ≤ reuse → (bodies : List WithForces) → bodies ≡ map without_forces sorted → (last : LastBuild) →
+      last.bodies.items ≡ sorted → HaveTogether g sorted last.ranks.items → IsSound g t group reuse 0 bodies last
+  opened_sound g t group reuse some most some_steps bodies is last of together = record {
     standing = opened_stands group some most bodies is;
-    as_built = record { built = sorted; same = sym (ap (map (λ (b : WithForces). b.body.id)) is ∙ fresh_ids sorted); together = together };
-  }
+    some_steps = some_steps;
+    last_build = record {
+      same = ap (map (λ (p : Particle). p.id)) of ∙ sym (ap (map (λ (b : WithForces). b.body.id)) is ∙ fresh_ids sorted);
+      together = subst (λ js. HaveTogether g js last.ranks.items) (sym of) together;
+      kept = inl (starts reuse some_steps);
+    };
+  } where
+    starts : (n : ℕ) → 1 ≤ n → 0 % n ≡ 0
+    starts n some = omega arith
 
   pub sorted_is : OrdersByIdAreOne → by_id read ≡ sorted
   sorted_is one = one read sorted particles.distinct same ∙ by_id-ascending sorted (ascend sorted sorted_ascend)
@@ -454,52 +429,61 @@ module _ (keep : DistinctIdsIgnoreOrder) (read sorted : List Particle) (particle
 row_by : WithForces → ℕ → BodyLine
 row_by b owner = record { id = b.body.id; owner = owner; at = b.body.at; vel = b.body.vel; forces = b.forces }
 
-rows_are : (u : Setup) (built : List Particle) (bodies : List WithForces) → All (λ b. (as_built built b.body).at ≡ b.body.at) bodies → map (body_row u built) bodies ≡ map (row_with (cuts_for u.grid built)) bodies
-unfolding body_row row_by owner
-rows_are u built [] still = refl
-rows_are u built (b ∷ bs) still =
-    let here = All-head (λ (v : WithForces). (as_built built v.body).at ≡ v.body.at) b bs still in
-    let rest = rows_are u built bs (All-tail (λ (v : WithForces). (as_built built v.body).at ≡ v.body.at) b bs still) in
-    (λ i. row_by b (owner_by (cuts_for u.grid built) (here i)) ∷ rest i)
+owners_by : Division → List Particle → List Particle → List ℕ
+owners_by g built js = map (λ p. owner g built p.at) js
+
+-- the particles as they were at the build
+were : List Particle → List WithForces → List Particle
+were built bodies = map (λ b. as_built built b.body) bodies
+
+were_now : (built : List Particle) (bodies : List WithForces) → were built bodies ≡ map (as_now built) (map (λ b. b.body) bodies)
+unfolding were
+were_now built [] = refl
+were_now built (b ∷ bs) = ap (λ rest. as_now built b.body ∷ rest) (were_now built bs)
+
+were_all : (built : List Particle) (bodies : List WithForces) → Ascend built → map (λ (p : Particle). p.id) built ≡ map (λ (b : WithForces). b.body.id) bodies → were built bodies ≡ built
+were_all built bodies up same = were_now built bodies ∙ all_now built (map (λ b. b.body) bodies) up (map_ids bodies ∙ sym same)
+
+rows_are : (u : Setup) (built : List Particle) (bodies : List WithForces) → map (body_row u built) bodies ≡ map row_with (zip (owners_by u.grid built (were built bodies)) bodies)
+unfolding body_row row_by owners_by were
+rows_are u built [] = refl
+rows_are u built (b ∷ bs) = ap (λ rest. row_by b (owner u.grid built (as_built built b.body).at) ∷ rest) (rows_are u built bs)
 
 text_by : ℕ → List RankLine → List BodyLine → StepText
 text_by s lines rows = record { step = s; ranks = lines; rows = rows }
 
-told_is : (u : Setup) (s : ℕ) (bodies : List WithForces) (lines : List RankLine) (d : Regions) (ranks : List Holding) → Reaches u s bodies lines d ranks → option_map (told u s) (state u s) ≡ Some (text_with s lines d.cuts bodies)
-unfolding text_by
-told_is u s bodies lines d ranks reaches =
+told_is : (u : Setup) (s : ℕ) (bodies : List WithForces) (lines : List RankLine) (last : LastBuild) → Reaches u s bodies lines last → Ascend last.bodies.items → map (λ (p : Particle). p.id) last.bodies.items ≡ map (λ (b : WithForces). b.body.id) bodies →
+    option_map (told u s) (state u s) ≡ Some (text_with s lines last.owners.items bodies)
+unfolding text_by owners_by
+told_is u s bodies lines last reaches up same =
+    let built = last.bodies.items in
+    let owners : owners_by u.grid built (were built bodies) ≡ last.owners.items = ap (owners_by u.grid built) (were_all built bodies up same) ∙ sym reaches.build.owners in
     ap (option_map (told u s)) reaches.state
-    ∙ (λ i. Some (text_by s (sym reaches.counts i) (rows_are u reaches.built bodies reaches.unmoved i)))
-    ∙ ap (λ (r : Regions). Some (text_by s lines (map (row_with r.cuts) bodies))) (sym reaches.domains)
+    ∙ (λ i. Some (text_by s (sym reaches.counts i) (rows_are u built bodies i)))
+    ∙ ap (λ (os : List ℕ). Some (text_with s lines os bodies)) owners
 
-before_next : (u : Setup) (s n : ℕ) (bodies : List WithForces) (lines : List RankLine) (d : Regions) (ranks : List Holding) → n ≡ suc s → Reaches u s bodies lines d ranks → IsBefore u n bodies
-before_next u s n bodies lines d ranks e reaches = subst (λ (k : ℕ). IsBefore u k bodies) (sym e) (reaches.built, reaches.state)
-
-ranks_next : (u : Setup) (s n : ℕ) (bodies : List WithForces) (lines : List RankLine) (d : Regions) (ranks : List Holding) → n ≡ suc s → Reaches u s bodies lines d ranks → AreRanksBefore u n ranks
-ranks_next u s n bodies lines d ranks e reaches =
-    subst (λ (k : ℕ). AreRanksBefore u k ranks) (sym e) (record { bodies = bodies; built = reaches.built }, reaches.state, reaches.owners)
-
-steps_from : (w : Standing) (u : Setup) (bodies : List WithForces) (lines : List RankLine) (d : Regions) (ranks : List Holding) (text : StepText) → StandsFor w u → Reaches u w.due bodies lines d ranks → text ≡ text_with w.due lines d.cuts bodies →
-    Steps u w.due (record w { due = w.due + 1; bodies = bodies; ranks = ranks }) text
-steps_from w u bodies lines d ranks text stands reaches is = record {
+steps_from : (c : Course) (u : Setup) (due : ℕ) (bodies : List WithForces) (lines : List RankLine) (last : LastBuild) (text : StepText) → Follows c u → AreBodies u.particles → Reaches u due bodies lines last →
+    option_map (told u due) (state u due) ≡ Some text → Steps u due (world_of c (suc due) bodies last) text
+steps_from c u due bodies lines last text f particles reaches told = record {
   no_fault = reaches.no_fault;
-  told = told_is u w.due bodies lines d ranks reaches ∙ ap Some (sym is);
-  due = add-one w.due;
+  told = told;
+  due = refl;
   stands = record {
-    kernel = stands.kernel;
-    grid = stands.grid;
-    theta = stands.theta;
-    group = stands.group;
-    dt = stands.dt;
-    rebuilt = stands.rebuilt;
-    particles = stands.particles;
-    before = before_next u w.due (w.due + 1) bodies lines d ranks (add-one w.due) reaches;
-    ranks = ranks_next u w.due (w.due + 1) bodies lines d ranks (add-one w.due) reaches;
+    kernel = f.kernel;
+    grid = f.grid;
+    theta = f.theta;
+    group = f.group;
+    dt = f.dt;
+    reuse = f.reuse;
+    particles = particles;
+    before = reaches.state;
+    last = reaches.build;
   };
 }
 
-pub steps_on : (inside w : Standing) (u : Setup) (lent bodies : List WithForces) (lines : List RankLine) (d : Regions) (ranks : List Holding) (text : StepText) → inside ≡ w → lent ≡ bodies → text ≡ text_with inside.due lines d.cuts lent → StandsFor w u →
-    Reaches u w.due bodies lines d ranks → Steps u w.due (record inside { due = inside.due + 1; bodies = bodies; ranks = ranks }) text
-steps_on inside w u lent bodies lines d ranks text view same is stands reaches =
-    let now : text ≡ text_with w.due lines d.cuts bodies = is ∙ ap (text_with inside.due lines d.cuts) same ∙ ap (λ (v : Standing). text_with v.due lines d.cuts bodies) view in
-    subst (λ (v : Standing). Steps u w.due (record v { due = v.due + 1; bodies = bodies; ranks = ranks }) text) (sym view) (steps_from w u bodies lines d ranks text stands reaches now)
+pub steps_on : (c : Course) (u : Setup) (due : ℕ) (bodies : List WithForces) (lines : List RankLine) (last : LastBuild) (text : StepText) → Follows c u → AreBodies u.particles → Reaches u due bodies lines last →
+    IsSound c.grid c.theta c.group c.reuse (due + 1) bodies last → text ≡ text_with due lines last.owners.items bodies → Steps u due (world_of c (due + 1) bodies last) text
+steps_on c u due bodies lines last text f particles reaches sound is =
+    let up = ascend last.bodies.items (subst IsStrictlyIncreasing (sym sound.last_build.same) sound.standing.ascending) in
+    subst (λ (n : ℕ). Steps u due (world_of c n bodies last) text) (sym (add-one due))
+    (steps_from c u due bodies lines last text f particles reaches (told_is u due bodies lines last reaches up sound.last_build.same ∙ ap Some (sym is)))

@@ -16,11 +16,11 @@ pub record BuildsBy (g : Division) (t : Criterion) (limit : ℕ) (u : Setup) : T
   pub theta : u.theta ≡ t
   pub group : u.group ≡ limit
 
--- the groups of a build with their lists: together they have each particle once, and a group's list is that of each
--- of its particles
-pub record AreListsOf (u : Setup) (built : List Particle) (lists : List GroupList) : Type 0 where
-  pub all : IsPermutation built (flat_map (λ l. l.bodies) lists)
-  pub each : All (λ l. All (λ i. l.entries ≡ list_for u built built i) l.bodies) lists
+-- the groups of a build with their lists, as its particles are now: together they have each particle once, and a
+-- group's list is that of each of its particles
+pub record AreListsOf (u : Setup) (built now : List Particle) (lists : List GroupList) : Type 0 where
+  pub all : IsPermutation now (flat_map (λ l. l.bodies) lists)
+  pub each : All (λ l. All (λ i. l.entries ≡ list_for u built now i) l.bodies) lists
 
 -- the lists of a build have more entries than the limit, namely so many, or memory ran out
 abbrev pub IsTooMany : Setup → List Particle → StepFault → Type 0

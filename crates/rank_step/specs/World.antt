@@ -9,22 +9,24 @@ use Rattle.pf_model.specs.Particles.{AreBodies, by_id}
 use Rattle.kern_tree.specs.declared.kernel.Kernel.{Kernel}
 use Rattle.run_model.specs.declared.step_text.StepText.{StepText}
 use Rattle.run_model.specs.Setup.{Setup}
-use Rattle.run_model.specs.Run.{WithForces, State, state, first_fault}
+use Rattle.run_model.specs.Run.{WithForces, state, first_fault}
 use Rattle.run_model.specs.Text.{told}
-use Rattle.exchange.specs.States.{Holding}
-use Rattle.rank_step.specs.Ranks.{HaveTogether, first_ranks, with_owners}
+use Rattle.rank_step.specs.declared.course.Course.{Course}
+use Rattle.rank_step.specs.declared.last_build.LastBuild.{LastBuild}
+use Rattle.rank_step.specs.LastBuild.{IsLastFor, IsLastBefore}
 
 -- a world as clauses see it: what its steps follow, the number of the next one, the particles with the forces on them
--- by ascending id, and what each rank had of them at the last build
+-- by ascending id, and what is kept of the last build
 pub record Standing : Type 0 where
   pub kernel : Kernel
   pub grid : Division
   pub theta : Criterion
   pub group : ℕ
   pub dt : ℕ
+  pub reuse : ℕ
   pub due : ℕ
   pub bodies : List WithForces
-  pub ranks : List Holding
+  pub last : LastBuild
 
 -- a limit of groups, and few particles in the order of their ids
 pub record IsStanding (group : ℕ) (bodies : List WithForces) : Type 0 where
@@ -33,38 +35,39 @@ pub record IsStanding (group : ℕ) (bodies : List WithForces) : Type 0 where
   pub few : length bodies ≤ MOST_PARTICLES
   pub ascending : IsStrictlyIncreasing (map (λ b. b.body.id) bodies)
 
--- the ranks have together the particles with the ids of these, as they were at the last build, or as they were read
-pub record HaveAsBuilt (g : Division) (bodies : List WithForces) (ranks : List Holding) : Type 0 where
-  pub built : List Particle
-  pub same : map (λ p. p.id) built ≡ map (λ b. b.body.id) bodies
-  pub together : HaveTogether g built ranks
-
 -- what each world keeps
-pub record IsSound (g : Division) (group : ℕ) (bodies : List WithForces) (ranks : List Holding) : Type 0 where
+pub record IsSound (g : Division) (t : Criterion) (group reuse due : ℕ) (bodies : List WithForces) (last : LastBuild)
+    : Type 0 where
   pub standing : IsStanding group bodies
-  pub as_built : HaveAsBuilt g bodies ranks
+  pub some_steps : 1 ≤ reuse
+  pub last_build : IsLastFor g t group reuse due (map (λ b. b.body.id) bodies) last
 
--- these are the particles of the run before this step: as they were read, or as the step before left them
-abbrev pub IsBefore : Setup → ℕ → List WithForces → Type 0
-IsBefore u zero bodies = map (λ b. b.body) bodies ≡ by_id u.particles
-IsBefore u (suc s) bodies = (built : List Particle) × (state u s ≡ Some (record { bodies = bodies; built = built }))
+-- a run that these steps follow
+pub record Follows (c : Course) (u : Setup) : Type 0 where
+  pub kernel : u.kernel ≡ c.kernel
+  pub grid : u.grid ≡ c.grid
+  pub theta : u.theta ≡ c.theta
+  pub group : u.group ≡ c.group
+  pub dt : u.dt ≡ c.dt
+  pub reuse : u.reuse ≡ c.reuse
 
--- the ranks have them before this step: dealt out as they were read, or each with its owner at the last build
-abbrev pub AreRanksBefore : Setup → ℕ → List Holding → Type 0
-AreRanksBefore u zero ranks = ranks ≡ first_ranks u.grid (by_id u.particles)
-AreRanksBefore u (suc s) ranks = (now : State) × (state u s ≡ Some now) × (ranks ≡ with_owners u.grid now.built)
+-- these are the particles of the run before this step, and as they were at the last build: as they were read, or as
+-- the step before left them
+abbrev pub IsBefore : Setup → ℕ → List WithForces → List Particle → Type 0
+IsBefore u zero bodies built = (map (λ b. b.body) bodies ≡ by_id u.particles) × (built ≡ by_id u.particles)
+IsBefore u (suc s) bodies built = state u s ≡ Some (record { bodies = bodies; built = built })
 
--- the world is that of this run, which makes its lists anew at every step
+-- the world is that of this run
 pub record StandsFor (w : Standing) (u : Setup) : Type 0 where
   pub kernel : u.kernel ≡ w.kernel
   pub grid : u.grid ≡ w.grid
   pub theta : u.theta ≡ w.theta
   pub group : u.group ≡ w.group
   pub dt : u.dt ≡ w.dt
-  pub rebuilt : u.reuse ≡ 1
+  pub reuse : u.reuse ≡ w.reuse
   pub particles : AreBodies u.particles
-  pub before : IsBefore u w.due w.bodies
-  pub ranks : AreRanksBefore u w.due w.ranks
+  pub before : IsBefore u w.due w.bodies w.last.bodies.items
+  pub last : IsLastBefore u w.due w.last
 
 -- the step has a state, which the text tells, and the new world stands for the run after it
 pub record Steps (u : Setup) (s : ℕ) (after : Standing) (text : StepText) : Type 0 where

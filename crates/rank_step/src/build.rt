@@ -8,7 +8,7 @@ ghost use Rattle.run_model.specs.Run.{lists_fault};
 ghost use Rattle.run_model.specs.Text.{ranks as all_ranks, rank_counts};
 ghost use Rattle.rank_step.specs.Build.{BuildsBy, AreListsOf, IsTooMany};
 ghost use Rattle.rank_step.specs.Ranks.{with_owners};
-ghost use Rattle.rank_step.specs.Trees.{AreFinished};
+ghost use Rattle.rank_step.specs.Trees.{AreFinished, BeginAsKept};
 ghost use Rattle.tree_phase.specs.Trees.{AreArrivals, HaveGathered};
 ghost use Rattle.pf_model.specs.Division.{rank_count};
 
@@ -22,15 +22,24 @@ use pf_model::{
     boxes_ignore_order, groups_ignore_order, kept_lists_begin_as_lists, owners_are_ranks,
 };
 use pf_num::OutOfMemory;
+use refresh_phase::builds_begin_as_kept;
 use std::alloc::Global;
 use std::marker::Brand;
 use std::sync::Wait;
 use std::thread::Threads;
-use tree_phase::{Arrivals, Gathered, RankGather, RankLists, gather_all};
+use tree_phase::{Arrivals, Gathered, RankGather, RankLists, RankTree, gather_all};
 
-/// The groups of particles by ascending id, each of which is with its owner, with their lists, rank by rank, and what
-/// the text tells of each rank, and in which order essential trees came, unless all lists have more entries than the
-/// limit.
+/// The trees of all ranks, the lists of their groups with what the text tells of them, and in which order essential
+/// trees came.
+#[derive(Drop)]
+pub(crate) struct Built {
+    pub(crate) trees: Vec<RankTree>,
+    pub(crate) lists: Vec<RankLists>,
+    pub(crate) arrivals: Vec<Arrivals>,
+}
+
+/// The build on particles by ascending id, each of which is with its owner, unless all lists have more entries than
+/// the limit.
 pub(crate) fn build<R: Threads + Wait + Sync, G: Gate>(
     rt: &R,
     alloc: Global,
@@ -42,7 +51,7 @@ pub(crate) fn build<R: Threads + Wait + Sync, G: Gate>(
     grid: Grid,
     theta: Theta,
     limit: u32,
-) -> Result<(Vec<RankLists>, Vec<Arrivals>), StepFault>
+) -> Result<Built, StepFault>
     requires workers { 1 ≤ workers }
     requires bodies { AreBodies bodies.now }
     requires ascending { IsStrictlyIncreasing (map (λ p. p.id) bodies.now) }
@@ -51,10 +60,13 @@ pub(crate) fn build<R: Threads + Wait + Sync, G: Gate>(
     requires some { 1 ≤ limit }
     requires most { limit ≤ MOST_GROUP }
     ensures lists { (u : Setup) → BuildsBy grid theta limit u
-        → IfOk result (λ built. AreListsOf u bodies.now (flat_map (λ r. r.lists.groups) built.0.items)) }
+        → IfOk result (λ built. AreListsOf u bodies.now bodies.now (flat_map (λ r. r.lists.groups) built.lists.items)) }
     ensures counts { (u : Setup) → BuildsBy grid theta limit u
-        → IfOk result (λ built. map (λ r. r.line) built.0.items ≡ map (rank_counts u bodies.now) (all_ranks u)) }
-    ensures arrivals { IfOk result (λ built. AreArrivals (rank_count grid) built.1.items) }
+        → IfOk result (λ built. map (λ r. r.line) built.lists.items ≡ map (rank_counts u bodies.now) (all_ranks u)) }
+    ensures arrivals { IfOk result (λ built. AreArrivals (rank_count grid) built.arrivals.items) }
+    ensures counted { IfOk result (λ built. length built.trees.items ≡ length built.lists.items) }
+    ensures kept { IfOk result (λ built.
+        BeginAsKept limit theta grid bodies.now built.trees.items built.lists.items) }
     ensures few { (u : Setup) → BuildsBy grid theta limit u → OnOk result (lists_fault u bodies.now ≡ None) }
     ensures fault { (u : Setup) → BuildsBy grid theta limit u → IfErr result (IsTooMany u bodies.now) }
 {
@@ -72,7 +84,7 @@ fn build_by<R: Threads + Wait + Sync, T: Terms + Send + Sync, G: Gate>(
     ranks: &[RankState],
     domains: &Domains,
     limit: u32,
-) -> Result<(Vec<RankLists>, Vec<Arrivals>), StepFault>
+) -> Result<Built, StepFault>
     requires workers { 1 ≤ workers }
     requires theta { T.theta ≡ build.theta }
     requires ascending { IsStrictlyIncreasing (map (λ p. p.id) T.particles) }
@@ -81,18 +93,28 @@ fn build_by<R: Threads + Wait + Sync, T: Terms + Send + Sync, G: Gate>(
     requires some { 1 ≤ limit }
     requires most { limit ≤ MOST_GROUP }
     ensures lists { (u : Setup) → BuildsBy T.grid T.theta limit u
-        → IfOk result (λ built. AreListsOf u T.particles (flat_map (λ r. r.lists.groups) built.0.items)) }
+        → IfOk result (λ built. AreListsOf u T.particles T.particles (flat_map (λ r. r.lists.groups) built.lists.items)) }
     ensures counts { (u : Setup) → BuildsBy T.grid T.theta limit u
-        → IfOk result (λ built. map (λ r. r.line) built.0.items ≡ map (rank_counts u T.particles) (all_ranks u)) }
-    ensures arrivals { IfOk result (λ built. AreArrivals (rank_count T.grid) built.1.items) }
+        → IfOk result (λ built. map (λ r. r.line) built.lists.items ≡ map (rank_counts u T.particles) (all_ranks u)) }
+    ensures arrivals { IfOk result (λ built. AreArrivals (rank_count T.grid) built.arrivals.items) }
+    ensures counted { IfOk result (λ built. length built.trees.items ≡ length built.lists.items) }
+    ensures kept { IfOk result (λ built.
+        BeginAsKept limit T.theta T.grid T.particles built.trees.items built.lists.items) }
     ensures few { (u : Setup) → BuildsBy T.grid T.theta limit u → OnOk result (lists_fault u T.particles ≡ None) }
     ensures fault { (u : Setup) → BuildsBy T.grid T.theta limit u → IfErr result (IsTooMany u T.particles) }
 {
+    builds_begin_as_kept();
     let theta = build.theta;
-    let Gathered { gathers, arrivals } = gather_all::<R, T, G>(
-        rt, alloc, workers, gate, ranks, domains, theta, limit,
-    )?;
-    Ok((finish(alloc, limit, gathers)?, arrivals))
+    let Gathered {
+        trees,
+        gathers,
+        arrivals,
+    } = gather_all::<R, T, G>(rt, alloc, workers, gate, ranks, domains, theta, limit)?;
+    Ok(Built {
+        trees,
+        lists: finish(alloc, limit, gathers)?,
+        arrivals,
+    })
 }
 
 // The lists that were gathered from all ranks, unless they have more entries than the limit.
@@ -104,9 +126,11 @@ fn finish<T: Terms>(
     requires ascending { IsStrictlyIncreasing (map (λ p. p.id) T.particles) }
     requires gathered { HaveGathered limit T.grid T.particles gathers.items }
     ensures lists { (u : Setup) → BuildsBy T.grid T.theta limit u
-        → IfOk result (λ built. AreListsOf u T.particles (flat_map (λ r. r.lists.groups) built.items)) }
+        → IfOk result (λ built. AreListsOf u T.particles T.particles (flat_map (λ r. r.lists.groups) built.items)) }
     ensures counts { (u : Setup) → BuildsBy T.grid T.theta limit u
         → IfOk result (λ built. map (λ r. r.line) built.items ≡ map (rank_counts u T.particles) (all_ranks u)) }
+    ensures finished { IfOk result (λ built.
+        AreFinished T.theta T.grid T.particles gathers.items built.items) }
     ensures few { (u : Setup) → BuildsBy T.grid T.theta limit u → OnOk result (lists_fault u T.particles ≡ None) }
     ensures fault { (u : Setup) → BuildsBy T.grid T.theta limit u → IfErr result (IsTooMany u T.particles) }
 {

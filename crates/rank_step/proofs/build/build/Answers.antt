@@ -1,11 +1,9 @@
 use Rattle.std.proofs.Common.{List, sym, ◌∙◌, subst}
-use Rattle.std.specs.Prelude.{IfErr, IfOk, Vec}
-use Rattle.std.specs.Global.{Global}
+use Rattle.std.specs.Prelude.{IfErr, IfOk}
 use Rattle.pf_model.specs.Division.{Division, rank_count}
-use Rattle.tree_phase.specs.declared.arrivals.Arrivals.{Arrivals}
-use Rattle.tree_phase.specs.declared.rank_lists.RankLists.{RankLists}
 use Rattle.tree_phase.specs.Trees.{AreArrivals}
 use Rattle.pf_model.specs.Particle.{Particle}
+use Rattle.rank_step.specs.declared.build.Built.{Built}
 use Rattle.rank_step.specs.Build.{IsTooMany}
 use Rattle.rank_step.proofs.build.build.Goals as goal
 
@@ -20,5 +18,5 @@ returns-clause-fault g c u by =
 
 pub returns-clause-arrivals : goal.returns-clause-arrivals
 returns-clause-arrivals g c =
-    subst (λ (d : Division). IfOk c.build_by.result (λ (built : Vec RankLists Global × Vec Arrivals Global). AreArrivals (rank_count d) built.1.items)) c.of-build.ensures.grid
+    subst (λ (d : Division). IfOk c.build_by.result (λ (built : Built). AreArrivals (rank_count d) built.arrivals.items)) c.of-build.ensures.grid
     c.build_by.ensures.arrivals
