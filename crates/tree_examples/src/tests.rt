@@ -2,3 +2,4 @@ mod absorbing;
 mod bodies;
 mod members;
 mod sent;
+mod walk;
