@@ -1,10 +1,8 @@
 -- The forces of a step by the lists of a build, on particles by ascending id.
-use Rattle.std.specs.Prelude.{◌≡◌, ℕ, Bool, List, [], map, Option, None, if◌then◌else◌}
+use Rattle.std.specs.Prelude.{◌≡◌, Bool, List, [], map, Option, None, if◌then◌else◌}
 use Rattle.pf_geom.specs.declared.edge.Edge.{Edge}
 use Rattle.group_lists.specs.Whole.{GroupList}
 use Rattle.kern_tree.specs.declared.kernel.Kernel.{Kernel}
-use Rattle.pf_model.specs.Criterion.{Criterion}
-use Rattle.pf_model.specs.Division.{Division}
 use Rattle.pf_model.specs.Order.{first_some}
 use Rattle.pf_model.specs.Particle.{Particle}
 use Rattle.force_phase.specs.declared.phase.IdRow.{IdRow}
@@ -13,12 +11,7 @@ use Rattle.run_model.specs.Force.{first_given}
 use Rattle.run_model.specs.Setup.{Setup}
 use Rattle.run_model.specs.Run.{Stop, WithForces, with_forces, lists_fault, forces_fault}
 use Rattle.run_model.specs.Text.{ranks as all_ranks, rank_counts}
-use Rattle.rank_step.specs.Build.{BuildsBy, AreListsOf}
-
--- a run that builds by these and takes the forces of this kernel
-pub record TakesBy (k : Kernel) (g : Division) (t : Criterion) (limit : ℕ) (u : Setup) : Type 0 where
-  pub kernel : u.kernel ≡ k
-  pub builds : BuildsBy g t limit u
+use Rattle.rank_step.specs.Build.{AreListsOf}
 
 -- a run that takes the forces of this kernel on these particles by these lists
 pub record TakesFrom (k : Kernel) (e : Edge) (built now : List Particle) (all : List GroupList) (u : Setup)
