@@ -13,8 +13,6 @@ pub enum StoreCall {
 pub enum Part {
     /// The command `bench`.
     Bench,
-    /// A deck that reuses its lists.
-    Reuse,
 }
 
 /// How a command ended. `R` is why an input is refused, `F` is how a step of a run fails.

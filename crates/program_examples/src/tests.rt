@@ -7,5 +7,6 @@ mod limits;
 mod moves;
 mod program;
 mod ranks;
+mod reuse;
 mod words;
 mod workers;

@@ -1,5 +1,5 @@
 -- The words of the program have at most one verdict, since each input has at most one meaning.
-use Rattle.std.proofs.Common.{ℕ, ◌≡◌, inl, inr, ◌^◌, List, Option, Some, None, option_map, Result, Ok, Err, sym, ap, subst, ◌∙◌}
+use Rattle.std.proofs.Common.{ℕ, ◌≡◌, inl, inr, ◌^◌, List, Option, Some, None, Result, Ok, Err, sym, ap, subst, ◌∙◌}
 use Rattle.kern_token.specs.declared.fault.KernFault.{KernFault}
 use Rattle.kern_token.specs.declared.limits.TheConstants.{MOST_TEXT}
 use Rattle.kern_token.specs.declared.token.Token.{Token}
@@ -17,12 +17,11 @@ use Rattle.command_line.specs.declared.command.Command.{Command}
 use Rattle.command_line.specs.declared.command.Command.TheVariants as commands
 use Rattle.command_line.specs.Words.{command_of}
 use Rattle.command_frame.specs.Verdict.{AtMostOne}
-use Rattle.command_frame.specs.declared.status.Status.TheVariants.{NotBuilt}
-use Rattle.command_frame.proofs.VerdictLaws.{one_after, one_within, one_refusing, one_unless}
+use Rattle.command_frame.proofs.VerdictLaws.{one_after, one_within, one_refusing}
 use Rattle.top_call.specs.declared.status.Refusal.{Refusal}
 use Rattle.top_call.specs.declared.status.Refusal.TheVariants as refusals
 use Rattle.top_call.specs.Inputs.{DeckMeans, KernelMeans, ParticlesMean, DeckFileMeans, KernelFileMeans, ParticleFileMeans}
-use Rattle.top_call.specs.Run.{setup_of, unbuilt, run_verdict, WithKernel, WithBuiltDeck, WithDeck, RunMeans, CommandMeans, WordsMean}
+use Rattle.top_call.specs.Run.{setup_of, run_verdict, WithKernel, WithDeck, RunMeans, CommandMeans, WordsMean}
 
 -- a text has at most one reading as tokens
 abbrev pub OneTokens : Type 0
@@ -96,13 +95,12 @@ module _ (one : InputsAreOne) (files : Files) where
   one_run : (name : List ℕ) → AtMostOne (RunMeans name files)
   one_run name = one_after DeckFileMeans files name (λ deck. WithDeck deck files)
       (one_within MOST_TEXT refusals.DeckTooLarge DeckMeans (one_refusing refusals.Deck ReadsDeck one.decks))
-      (λ deck. one_unless (option_map NotBuilt (unbuilt deck)) (WithBuiltDeck deck files)
-      (one_after KernelFileMeans files deck.kernel (λ kernel. WithKernel deck kernel files)
+      (λ deck. one_after KernelFileMeans files deck.kernel (λ kernel. WithKernel deck kernel files)
       (one_within MOST_TEXT refusals.KernelTooLarge KernelMeans (one_kernel one))
       (λ kernel. one_after ParticleFileMeans files deck.particles (λ particles last. last ≡ run_verdict deck.out (setup_of deck kernel particles))
       (one_within (2 ^ 24) refusals.ParticlesTooLarge ParticlesMean
       (one_refusing refusals.Particles (λ bytes read. reading bytes ≡ read) (λ bytes a b p q. sym p ∙ q)))
-      (λ particles a b p q. p ∙ sym q))))
+      (λ particles a b p q. p ∙ sym q)))
 
   one_command : (command : Option (Command (List ℕ))) → AtMostOne (CommandMeans command files)
   one_command None = λ a b p q. p ∙ sym q

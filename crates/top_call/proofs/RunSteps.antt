@@ -1,22 +1,19 @@
 -- The steps of a run, as a command.
-use Rattle.std.proofs.Common.{ℕ, ◌≡◌, List, Bool, true, false, Option, Some, None, option_map, Result, Err, nat_eq, if◌then◌else◌, refl, sym, ap, subst, ◌∙◌}
+use Rattle.std.proofs.Common.{ℕ, ◌≡◌, List, Some, Result, Err, ap, ◌∙◌}
 use Rattle.std.specs.List.{concat}
 use Rattle.pf_io.specs.Store.{Files}
-use Rattle.deck_file.specs.declared.deck.Deck.{Deck}
 use Rattle.run_model.specs.declared.fault.Fault.{Fault}
 use Rattle.run_model.specs.Setup.{Setup}
 use Rattle.command_frame.specs.Effects.{CarriesOut}
 use Rattle.command_frame.specs.Standing.{Standing}
 use Rattle.command_frame.specs.Status.{EndsReading, EndsWriting}
 use Rattle.command_frame.specs.Reading.{ReadsInput}
-use Rattle.command_frame.specs.Verdict.{After, Verdict, stops, writes, Unless}
-use Rattle.command_frame.specs.declared.status.Part.{Part}
-use Rattle.command_frame.specs.declared.status.Part.TheVariants as parts
+use Rattle.command_frame.specs.Verdict.{After, Verdict, writes}
 use Rattle.command_frame.specs.declared.status.Status.TheVariants.{Done, Usage, Refused, Numeric, Lists, NotBuilt, StoreFault, Memory}
 use Rattle.command_frame.specs.declared.status.StoreCall.TheVariants.{Open, Read, Create, Write, Say}
-use Rattle.command_frame.proofs.StepLaws.{carried_as_more, carried_at_once, stops_after}
+use Rattle.command_frame.proofs.StepLaws.{carried_as_more, stops_after}
 use Rattle.top_call.specs.declared.status.Refusal.{Refusal}
-use Rattle.top_call.specs.Run.{Ending, EndsRun, WithBuiltDeck, WithDeck, last_status, run_verdict, unbuilt}
+use Rattle.top_call.specs.Run.{Ending, EndsRun, last_status, run_verdict}
 use Rattle.top_call.specs.Steps.{coming, texts_from}
 use Rattle.top_call.proofs.DumpLemmas.{all_texts}
 
@@ -41,24 +38,6 @@ writing_ends_run (StoreFault Create) h = tt
 writing_ends_run (StoreFault Write) h = tt
 writing_ends_run (StoreFault Say) h = absurd h
 writing_ends_run Memory h = tt
-
--- a part of a run that isn't built is no command
-is_of_run : (at_once : Bool) (part : Part) → (if at_once then None else Some parts.Reuse) ≡ Some part → EndsRun (NotBuilt part)
-is_of_run true part e = cc
-is_of_run false part e = let same : parts.Reuse ≡ part = cc in subst (λ (p : Part). EndsRun (NotBuilt p)) same tt
-
-pub stops_unbuilt : (deck : Deck) (part : Part) (old : Standing) → unbuilt deck ≡ Some part → CarriesOut EndsRun (WithDeck deck) (NotBuilt part) old old
-stops_unbuilt deck part old e =
-    carried_at_once EndsRun (WithDeck deck) (NotBuilt part) old (is_of_run (nat_eq deck.reuse 1) part e)
-    (λ files. record { meant = stops_here files; kept = refl }) (λ files said. refl) refl
-  where
-    stops_here : (files : Files) → WithDeck deck files (stops (NotBuilt part))
-    stops_here files =
-        subst (λ (o : Option Part). Unless (option_map NotBuilt o) (WithBuiltDeck deck files) (stops (NotBuilt part))) (sym e) refl
-
-pub goes_on_built : (deck : Deck) (status : Ending) (old new : Standing) → unbuilt deck ≡ None → CarriesOut EndsRun (WithBuiltDeck deck) status old new → CarriesOut EndsRun (WithDeck deck) status old new
-goes_on_built deck status old new e h = carried_as_more EndsRun EndsRun (WithBuiltDeck deck) (WithDeck deck) status old new (λ ends. ends)
-    (λ files verdict m. subst (λ (o : Option Part). Unless (option_map NotBuilt o) (WithBuiltDeck deck files) verdict) (sym e) m) h
 
 -- the verdict that the dumps of a run are written
 abbrev pub WritesDumps : List ℕ → Setup → Files → Verdict Refusal Fault → Type 0

@@ -1,5 +1,5 @@
 -- What the words of the program mean on the contents at entry.
-use Rattle.std.specs.Prelude.{ℕ, suc, ◌≡◌, ◌≤◌, ◌⊎◌, List, Option, Some, None, option_map, nat_eq, if◌then◌else◌}
+use Rattle.std.specs.Prelude.{ℕ, suc, ◌≡◌, ◌≤◌, ◌⊎◌, List, Option, Some, None}
 use Rattle.pf_io.specs.Store.{Files}
 use Rattle.pf_model.specs.Particle.{Particle}
 use Rattle.kern_tree.specs.declared.kernel.Kernel.{Kernel}
@@ -12,8 +12,7 @@ use Rattle.run_model.specs.Text.{texts}
 use Rattle.command_line.specs.declared.command.Command.{Command}
 use Rattle.command_line.specs.declared.command.Command.TheVariants as commands
 use Rattle.command_line.specs.Words.{command_of}
-use Rattle.command_frame.specs.Verdict.{Verdict, stops, writes, After, Unless, AtMostOne}
-use Rattle.command_frame.specs.declared.status.Part.{Part}
+use Rattle.command_frame.specs.Verdict.{Verdict, stops, writes, After, AtMostOne}
 use Rattle.command_frame.specs.declared.status.Part.TheVariants as parts
 use Rattle.command_frame.specs.declared.status.Status.{Status}
 use Rattle.command_frame.specs.declared.status.Status.TheVariants.{Done, Usage, Refused, Numeric, Lists, NotBuilt}
@@ -38,10 +37,6 @@ setup_of deck kernel particles = record {
   dt = deck.dt;
   reuse = deck.reuse;
 }
-
--- what a deck asks for and isn't built yet
-abbrev pub unbuilt : Deck → Option Part
-unbuilt deck = if nat_eq deck.reuse 1 then None else Some parts.Reuse
 
 -- the status that a step's fault ends the command with
 abbrev pub stop_status : ℕ → Option Stop → Ending
@@ -75,12 +70,9 @@ WithKernel deck kernel files verdict =
     After ParticleFileMeans files deck.particles
     (λ particles last. last ≡ run_verdict deck.out (setup_of deck kernel particles)) verdict
 
-abbrev pub WithBuiltDeck : Deck → Files → Verdict Refusal Fault → Type 0
-WithBuiltDeck deck files verdict =
-    After KernelFileMeans files deck.kernel (λ kernel. WithKernel deck kernel files) verdict
-
 abbrev pub WithDeck : Deck → Files → Verdict Refusal Fault → Type 0
-WithDeck deck files verdict = Unless (option_map NotBuilt (unbuilt deck)) (WithBuiltDeck deck files) verdict
+WithDeck deck files verdict =
+    After KernelFileMeans files deck.kernel (λ kernel. WithKernel deck kernel files) verdict
 
 abbrev pub RunMeans : List ℕ → Files → Verdict Refusal Fault → Type 0
 RunMeans name files verdict = After DeckFileMeans files name (λ deck. WithDeck deck files) verdict
@@ -107,8 +99,7 @@ EndsRun Usage = ⊥
 EndsRun (Refused refusal) = IsNoMemory refusal
 EndsRun (Numeric step fault) = Unit {0}
 EndsRun (Lists step count) = Unit {0}
-EndsRun (NotBuilt parts.Bench) = ⊥
-EndsRun (NotBuilt parts.Reuse) = Unit {0}
+EndsRun (NotBuilt part) = ⊥
 EndsRun (StoreFault Open) = Unit {0}
 EndsRun (StoreFault Read) = Unit {0}
 EndsRun (StoreFault Create) = Unit {0}

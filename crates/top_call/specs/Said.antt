@@ -55,7 +55,6 @@ lists_line step count = (codes "fdps: step " ++ decimal step ++ codes ": Lists "
 
 abbrev pub not_built_line : Part → List ℕ
 not_built_line parts.Bench = codes "fdps: not built: bench\n"
-not_built_line parts.Reuse = codes "fdps: not built: reuse\n"
 
 abbrev pub store_line : StoreCall → List ℕ
 store_line Open = codes "fdps: store: open failed\n"

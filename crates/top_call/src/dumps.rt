@@ -7,7 +7,7 @@ ghost use Rattle.command_frame.specs.Status.{EndsWriting, HasRoom, counts_after,
 ghost use Rattle.command_frame.specs.Verdict.{writes};
 ghost use Rattle.deck_file.specs.Laws.{IsWithinLimits};
 ghost use Rattle.run_model.specs.Setup.{Setup};
-ghost use Rattle.top_call.specs.Run.{AreWorkers, run_verdict, setup_of, unbuilt};
+ghost use Rattle.top_call.specs.Run.{AreWorkers, run_verdict, setup_of};
 ghost use Rattle.top_call.specs.Steps.{no_run};
 
 use crate::inputs::file_name;
@@ -100,7 +100,6 @@ pub(crate) fn write_dumps<U: Run, R: Threads + Wait + Sync, S: Store, G: Gate>(
 ) -> Status
     requires room { HasRoom (S.faults store.old) }
     requires within { IsWithinLimits deck.now }
-    requires built { unbuilt deck.now ≡ None }
     requires workers { AreWorkers workers.now.count }
     requires run { U.setup ≡ setup_of deck.now kernel particles }
     ensures { CarriesOut EndsWriting

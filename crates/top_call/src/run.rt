@@ -1,15 +1,13 @@
-ghost use Rattle.std.specs.Prelude.{◌≡◌, None};
 ghost use Rattle.command_frame.specs.Effects.{CarriesOut};
 ghost use Rattle.command_frame.specs.Standing.{standing};
 ghost use Rattle.command_frame.specs.Status.{HasRoom};
 ghost use Rattle.deck_file.specs.Laws.{IsWithinLimits};
-ghost use Rattle.top_call.specs.Run.{AreWorkers, EndsRun, RunMeans, WithBuiltDeck, WithDeck, WithKernel, unbuilt};
+ghost use Rattle.top_call.specs.Run.{AreWorkers, EndsRun, RunMeans, WithDeck, WithKernel};
 
 use crate::dumps::write_dumps;
 use crate::inputs::{file_name, read_deck, read_kernel, read_particles};
 use crate::status::Status;
 use crate::workers::Workers;
-use command_frame::Part;
 use deck_file::Deck;
 use kern_types::Typed;
 use pf_io::{Gate, Store};
@@ -50,26 +48,6 @@ fn with_deck<R: Threads + Wait + Sync, S: Store, G: Gate>(
         (standing (S.told store.old) (S.faults store.old) (S.is_steady store.old))
         (standing (S.told store.new) (S.faults store.new) (S.is_steady store.new)) }
 {
-    match unbuilt(deck) {
-        Some(part) => Status::NotBuilt(part),
-        None => with_built_deck(workers, alloc, store, deck),
-    }
-}
-
-fn with_built_deck<R: Threads + Wait + Sync, S: Store, G: Gate>(
-    workers: &Workers<'_, R, G>,
-    alloc: Global,
-    store: &mut S,
-    deck: &Deck,
-) -> Status
-    requires room { HasRoom (S.faults store.old) }
-    requires workers { AreWorkers workers.now.count }
-    requires within { IsWithinLimits deck.now }
-    requires built { unbuilt deck.now ≡ None }
-    ensures { CarriesOut EndsRun (WithBuiltDeck deck.now) result
-        (standing (S.told store.old) (S.faults store.old) (S.is_steady store.old))
-        (standing (S.told store.new) (S.faults store.new) (S.is_steady store.new)) }
-{
     match read_kernel(alloc, store, file_name(&deck.kernel)) {
         Ok(kernel) => with_kernel(workers, alloc, store, deck, kernel),
         Err(status) => status,
@@ -86,7 +64,6 @@ fn with_kernel<R: Threads + Wait + Sync, S: Store, G: Gate>(
     requires room { HasRoom (S.faults store.old) }
     requires workers { AreWorkers workers.now.count }
     requires within { IsWithinLimits deck.now }
-    requires built { unbuilt deck.now ≡ None }
     ensures { CarriesOut EndsRun (WithKernel deck.now kernel) result
         (standing (S.told store.old) (S.faults store.old) (S.is_steady store.old))
         (standing (S.told store.new) (S.faults store.new) (S.is_steady store.new)) }
@@ -96,16 +73,5 @@ fn with_kernel<R: Threads + Wait + Sync, S: Store, G: Gate>(
             write_dumps::<Brand, R, S, G>(workers, alloc, store, deck, kernel, particles)
         },
         Err(status) => status,
-    }
-}
-
-// What the deck asks for and isn't built yet.
-fn unbuilt(deck: &Deck) -> Option<Part>
-    ensures { result ≡ unbuilt deck.now }
-{
-    if deck.reuse != 1 {
-        Some(Part::Reuse)
-    } else {
-        None
     }
 }

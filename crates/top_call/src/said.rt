@@ -113,7 +113,6 @@ fn not_built_line(part: Part) -> &'static str
 {
     match part {
         Part::Bench => "fdps: not built: bench\n",
-        Part::Reuse => "fdps: not built: reuse\n",
     }
 }
 

@@ -1,9 +1,9 @@
-ghost use Rattle.std.specs.Prelude.{◌≡◌, ◌≤◌, None, IfOk};
+ghost use Rattle.std.specs.Prelude.{◌≡◌, ◌≤◌, IfOk};
 ghost use Rattle.deck_file.specs.declared.limits.TheConstants.{MOST_STEPS};
 ghost use Rattle.deck_file.specs.Laws.{IsWithinLimits};
 ghost use Rattle.rank_step.specs.World.{StandsFor};
 ghost use Rattle.run_model.specs.Setup.{Setup};
-ghost use Rattle.top_call.specs.Run.{AreWorkers, setup_of, unbuilt};
+ghost use Rattle.top_call.specs.Run.{AreWorkers, setup_of};
 ghost use Rattle.top_call.specs.Steps.{TakesStep};
 
 use crate::workers::Workers;
@@ -26,7 +26,6 @@ pub(crate) fn world_of(
     particles: Particles,
 ) -> Result<World, OutOfMemory>
     requires within { IsWithinLimits deck.now }
-    requires built { unbuilt deck.now ≡ None }
     ensures due { IfOk result (λ world. world.due ≡ 0) }
     ensures stands { IfOk result (λ world. StandsFor world (setup_of deck.now kernel particles)) }
 {

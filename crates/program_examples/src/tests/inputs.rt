@@ -147,20 +147,3 @@ fn a_deck_that_is_not_there_fails_to_open(rt: HostRuntime) -> Result<(), Fail> {
     assert_eq!(rt; store.said(), b"fdps: store: open failed\n".as_slice());
     Ok(())
 }
-
-#[test]
-fn kept_lists_are_not_built_yet(rt: HostRuntime) -> Result<(), Fail> {
-    for settings in ["reuse 2\n", "reuse 2\ngrid 1x1x2\n"] {
-        // The kernel isn't read any more.
-        let inputs = Inputs {
-            settings,
-            kernel: "$",
-            particles: TWO_BODIES,
-        };
-        let ran = run(&rt, inputs, &[], WHOLE)?;
-        assert_eq!(rt; ran.store.said(), b"fdps: not built: reuse\n".as_slice());
-        assert_eq!(rt; code(&ran.status), 8);
-        assert!(rt; ran.store.contents("o").is_none());
-    }
-    Ok(())
-}

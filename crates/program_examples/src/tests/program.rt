@@ -69,8 +69,8 @@ pub(crate) fn run(
     run_by(rt, &["run", "d"], inputs, fails, most)
 }
 
-// What these words leave of it.
-fn run_by(
+/// What these words leave of it.
+pub(crate) fn run_by(
     rt: &(impl Threads + Wait + Sync + AllocGlobal),
     words: &[&str],
     inputs: Inputs<'_>,
@@ -110,7 +110,8 @@ pub(crate) fn writes_on_workers(
     Ok(())
 }
 
-fn writes_by(
+/// That these words do so.
+pub(crate) fn writes_by(
     rt: &(impl Threads + Wait + Sync + Abort + AllocGlobal),
     words: &[&str],
     inputs: Inputs<'_>,

@@ -1,9 +1,18 @@
-use Rattle.std.proofs.Common.{sym, ◌∙◌}
-use Rattle.top_call.proofs.RunSteps.{stops_unbuilt, goes_on_built}
+use Rattle.std.proofs.Common.{Ok, Err, refl}
+use Rattle.command_frame.proofs.StepLaws.{goes_on_after}
+use Rattle.top_call.specs.Inputs.{KernelFileMeans}
+use Rattle.top_call.specs.Run.{EndsRun, WithKernel}
+use Rattle.top_call.proofs.RunSteps.{stops_run}
 use Rattle.top_call.proofs.run.with_deck.Goals as goal
 
-pub returns-in-Some : goal.returns-in-Some
-returns-in-Some g c = stops_unbuilt c.args.deck.now c.in-Some.part _ (sym c.unbuilt.ensures ∙ c.in-Some.is)
+pub returns-in-Ok : goal.returns-in-Ok
+returns-in-Ok g c =
+    let reads = rw c.file_name.ensures at c.in-Ok.ensures.reads in
+    goes_on_after EndsRun KernelFileMeans (λ kernel. kernel) c.args.deck.now.kernel (λ files kernel. WithKernel c.args.deck.now kernel files)
+    (Ok c.in-Ok.kernel) c.in-Ok.kernel c.with_kernel.result _ _ _ refl reads c.with_kernel.ensures
 
-pub returns-in-None : goal.returns-in-None
-returns-in-None g c = goes_on_built c.args.deck.now c.with_built_deck.result _ _ (sym c.unbuilt.ensures ∙ c.in-None.is) c.with_built_deck.ensures
+pub returns-in-Err : goal.returns-in-Err
+returns-in-Err g c =
+    let reads = rw c.file_name.ensures at c.in-Err.ensures.reads in
+    stops_run KernelFileMeans (λ kernel. kernel) c.args.deck.now.kernel (λ files kernel. WithKernel c.args.deck.now kernel files)
+    (Err c.in-Err.status) c.in-Err.status _ _ c.in-Err.ensures.ends refl reads

@@ -1,8 +1,8 @@
-use Rattle.std.proofs.Common.{◌≡◌, ◌≤◌, Some, sym, ◌∙◌, arith}
+use Rattle.std.proofs.Common.{◌≡◌, ◌<◌, ◌≤◌, Some, sym, ◌∙◌, arith}
 use Rattle.rank_step.specs.World.{StandsFor}
 use Rattle.run_model.specs.Run as stop
 use Rattle.top_call.specs.Steps.{IsDue}
-use Rattle.top_call.proofs.DumpLemmas.{due_of, coming_of, more_comes, next_text, fault_comes}
+use Rattle.top_call.proofs.DumpLemmas.{due_of, coming_of, past_the_end, more_comes, next_text, fault_comes}
 use Rattle.top_call.proofs.dumps.Dumps.next.Goals as goal
 
 pub invariant_of-self-in-Ok : goal.invariant_of-self-in-Ok
@@ -19,6 +19,16 @@ invariant_of-self-in-Ok g c =
       steps_are = due.steps_are;
       few = due.few;
     }
+
+pub returns-then-self : goal.returns-then-self
+returns-then-self g c =
+    let run = g.U.Run.setup in
+    let there : c.self.inside.world ≡ Some c.in-Some.world = sym c.take.ensures.value ∙ c.in-Some.is in
+    let due = due_of (λ w. IsDue w.due (StandsFor w run) run c.self.inside.next c.self.inside.steps) c.self.inside.world c.in-Some.world there c.self.invariant in
+    let now = coming_of run c.self.inside.world c.in-Some.world c.self.inside.next c.args.self.now there c.self.view_is in
+    let beyond : run.steps < c.self.inside.next = (let same = due.steps_are in omega arith) in
+    let ends = past_the_end run c.self.inside.next (c.states_stand_before_the_end.ensures run) due.within beyond in
+    (now.0 ∙ ends.0, ends.1 ∙ now.1, tt)
 
 pub returns-in-Ok : goal.returns-in-Ok
 returns-in-Ok g c =
