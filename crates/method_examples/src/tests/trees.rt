@@ -1,4 +1,5 @@
-ghost use Rattle.std.specs.Prelude.{◌≡◌, ◌≢◌, ◌^◌, ◌<◌, ◌≤◌};
+ghost use Rattle.std.specs.Prelude.{◌≡◌, ◌≢◌, ◌^◌, ◌<◌, ◌≤◌, IfOk};
+ghost use Rattle.morton_tree.specs.Tree.{IsUnmoved};
 
 use super::bodies::{body, halfway};
 use moments::centre;
@@ -27,12 +28,15 @@ fn tree_of(
     requires a_and_b_differ { a.id ≢ b.id }
     requires a_and_c_differ { a.id ≢ c.id }
     requires b_and_c_differ { b.id ≢ c.id }
+    ensures { IfOk result (λ tree. IsUnmoved tree) }
 {
     Tree::build(rt, alloc, Vec::from_array(alloc, [a, b, c])?)
 }
 
 // Three bodies on the x axis, two of them close together.
-fn two_close_and_one_far(rt: &(impl Threads + Sync), alloc: Global) -> Result<Tree, OutOfMemory> {
+fn two_close_and_one_far(rt: &(impl Threads + Sync), alloc: Global) -> Result<Tree, OutOfMemory>
+    ensures { IfOk result (λ tree. IsUnmoved tree) }
+{
     tree_of(
         rt,
         alloc,
