@@ -11,7 +11,7 @@ use Rattle.pf_geom.specs.Octant.{Octant, cell_at}
 use Rattle.pf_geom.specs.CellLaws.{PositionsShareLowerCells}
 use Rattle.pf_model.specs.Criterion.{Criterion, Passes}
 use Rattle.pf_model.specs.Interaction.{level_of}
-use Rattle.pf_model.specs.ListLaws.{IsFirstPassing, LevelsAreLeast}
+use Rattle.model_laws.specs.ListLaws.{IsFirstPassing, LevelsAreLeast}
 use Rattle.cell_runs.specs.declared.cell_run.CellRun.{CellRun}
 use Rattle.cell_runs.specs.CellRuns.{IsPlaceOf, IsWholeCell, IsCellRun, FollowInTurn, AreCellRuns}
 use Rattle.cell_runs.specs.Finding.{cell_of_key, IsBetweenCells, key_before, NoSharedPasses, IsCellFront, IsFront}

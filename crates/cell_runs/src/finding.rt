@@ -9,9 +9,10 @@ ghost use Rattle.cell_runs.specs.Finding.{cell_of_key, IsBetweenCells, key_befor
 ghost use Rattle.cell_runs.specs.Finding.{IsCellFront, IsFront, past_cell};
 
 use crate::cell_run::CellRun;
+use model_laws::levels_are_least;
 use opening_test::LeastGaps;
 use pf_geom::{Box3, Cell, DEEPEST, positions_share_lower_cells};
-use pf_model::{MOST_PARTICLES, Steps, Theta, levels_are_least};
+use pf_model::{MOST_PARTICLES, Steps, Theta};
 use pf_num::OutOfMemory;
 use std::sync::ledger::Ledger;
 

@@ -8,7 +8,7 @@ use Rattle.pf_model.specs.Criterion.{Criterion}
 use Rattle.pf_model.specs.Division.{Division}
 use Rattle.pf_model.specs.Domains.{particles_of, domain_box}
 use Rattle.pf_model.specs.Interaction.{list_of}
-use Rattle.pf_model.specs.ListLaws.{ListsIgnoreOrder}
+use Rattle.model_laws.specs.ListLaws.{ListsIgnoreOrder}
 use Rattle.pf_model.specs.EssentialTree.{tree_for, essential_tree}
 
 tree_for_some : (is : List Particle) (items : List Entry) → 1 ≤ length is → tree_for is items ≡ items

@@ -10,9 +10,10 @@ ghost use Rattle.essential_tree.specs.Sending.{IsSentOf};
 
 use crate::listing::list_for;
 use crate::sent::Sent;
+use model_laws::lists_ignore_order;
 use morton_tree::Tree;
 use pf_geom::{Box3, DEEPEST};
-use pf_model::{Entry, EssTree, Steps, Terms, Theta, lists_ignore_order};
+use pf_model::{Entry, EssTree, Steps, Terms, Theta};
 use pf_num::OutOfMemory;
 use std::alloc::Global;
 use std::marker::PhantomData;

@@ -8,13 +8,13 @@ use Rattle.std.proofs.lemmas.List.Elements.{filter-append}
 use Rattle.std.proofs.lemmas.List.Sums.{count_by-le-length, length-filter}
 use Rattle.std.proofs.lemmas.List.Sorted.{IsPermutation-refl, IsPermutation-trans, IsPermutation-append_right, IsPermutation-filter_both, length_permutation}
 use Rattle.pf_model.specs.Particle.{Particle}
-use Rattle.pf_model.specs.ParticleLaws.{DistinctIdsIgnoreOrder, SomeHaveDistinctIds}
-use Rattle.pf_model.specs.IdLaws.{OrdersByIdAreOne, OrdersByIdHaveDistinctIds, OrdersByIdKeepParticles}
+use Rattle.model_laws.specs.ParticleLaws.{DistinctIdsIgnoreOrder, SomeHaveDistinctIds}
+use Rattle.model_laws.specs.IdLaws.{OrdersByIdAreOne, OrdersByIdHaveDistinctIds, OrdersByIdKeepParticles}
 use Rattle.pf_model.specs.Division.{rank_count}
 use Rattle.pf_model.specs.Domains.{Multisection, owner_by}
 use Rattle.exchange.specs.States.{Holding, Package, owned_by, left_with, parcel_for, joined}
 use Rattle.exchange.specs.ExchangeLaws.{AreOfAllRanks, particles_held, parcels_to, EachRankHasItsOwn, EachParticleIsWithItsOwner}
-use Rattle.pf_model.specs.OrderLaws.{PartsKeepPermutations}
+use Rattle.order_laws.specs.OrderLaws.{PartsKeepPermutations}
 
 filter-flat_map : {E F : Type 0} (p : F → Bool) (f : E → List F) (xs : List E) → filter p (flat_map f xs) ≡ flat_map (λ x. filter p (f x)) xs
 filter-flat_map p f [] = refl

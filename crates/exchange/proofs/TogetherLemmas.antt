@@ -4,12 +4,12 @@ use Rattle.std.specs.List.{flat_map, range_with_len}
 use Rattle.std.proofs.lemmas.List.Sorted.{IsPermutation-refl, IsPermutation-trans}
 use Rattle.pf_model.specs.Particle.{Particle}
 use Rattle.pf_model.specs.Particles.{by_id}
-use Rattle.pf_model.specs.ParticleLaws.{SomeHaveDistinctIds}
-use Rattle.pf_model.specs.IdLaws.{OrdersByIdHaveAll}
-use Rattle.pf_model.specs.OrderLaws.{PartsByKeyAreAll, PartsKeepPermutations}
+use Rattle.model_laws.specs.ParticleLaws.{SomeHaveDistinctIds}
+use Rattle.model_laws.specs.IdLaws.{OrdersByIdHaveAll}
+use Rattle.order_laws.specs.OrderLaws.{PartsByKeyAreAll, PartsKeepPermutations}
 use Rattle.pf_model.specs.Division.{rank_count}
 use Rattle.pf_model.specs.Domains.{owner_by}
-use Rattle.pf_model.specs.DomainLaws.{OwnersByCutsAreRanks}
+use Rattle.model_laws.specs.DomainLaws.{OwnersByCutsAreRanks}
 use Rattle.exchange.specs.States.{owned_by}
 use Rattle.exchange.specs.ExchangeLaws.{RanksTogetherHaveAll}
 

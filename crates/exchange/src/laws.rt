@@ -5,11 +5,13 @@ ghost use Rattle.exchange.specs.ExchangeLaws.{EachRankHasItsOwn, EachParticleIsW
 
 use crate::parcel::Parcel;
 use crate::rank_state::RankState;
-use pf_model::{
-    Body, distinct_ids_ignore_order, orders_by_id_are_one, orders_by_id_have_all,
+use model_laws::{
+    distinct_ids_ignore_order, orders_by_id_are_one, orders_by_id_have_all,
     orders_by_id_have_distinct_ids, orders_by_id_keep_particles, owners_by_cuts_are_ranks,
-    parts_by_key_are_all, parts_keep_permutations, some_have_distinct_ids,
+    some_have_distinct_ids,
 };
+use order_laws::{parts_by_key_are_all, parts_keep_permutations};
+use pf_model::Body;
 
 /// After all ranks left and settled, each has exactly what it owns of all particles.
 pub fn each_rank_has_its_own()

@@ -4,7 +4,9 @@ ghost use Rattle.exchange.specs.States.{AreInIdOrder, joined, settled};
 
 use crate::parcel::Parcel;
 use crate::rank_state::RankState;
-use pf_model::{Body, ascending_is_by_id, distinct_ids_ignore_order, distinct_keys_rise};
+use model_laws::{ascending_is_by_id, distinct_ids_ignore_order};
+use order_laws::distinct_keys_rise;
+use pf_model::Body;
 use pf_num::OutOfMemory;
 use std::alloc::Global;
 

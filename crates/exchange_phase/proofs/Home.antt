@@ -8,11 +8,11 @@ use Rattle.std.proofs.lemmas.List.FromFn.{length-range_with_len, get_or-range_wi
 use Rattle.std.proofs.lemmas.List.Sorted.{length_permutation}
 use Rattle.std.proofs.lemmas.Slice.Zip.{get_or-zip, length-zip}
 use Rattle.pf_model.specs.Division.{Division, rank_count}
-use Rattle.pf_model.specs.DomainLaws.{CutsIgnoreOrder, DomainsIgnoreOrder}
+use Rattle.model_laws.specs.DomainLaws.{CutsIgnoreOrder, DomainsIgnoreOrder}
 use Rattle.pf_model.specs.Domains.{Multisection, owner, particles_of, cuts_for}
-use Rattle.pf_model.specs.IdLaws.{OrdersByIdAreOne}
+use Rattle.model_laws.specs.IdLaws.{OrdersByIdAreOne}
 use Rattle.pf_model.specs.Particle.{Particle}
-use Rattle.pf_model.specs.ParticleLaws.{DistinctIdsIgnoreOrder, SomeHaveDistinctIds}
+use Rattle.model_laws.specs.ParticleLaws.{DistinctIdsIgnoreOrder, SomeHaveDistinctIds}
 use Rattle.pf_model.specs.Particles.{AreBodies, by_id}
 use Rattle.let_inbox.specs.declared.inbox.Inbox.{Inbox}
 use Rattle.let_inbox.specs.declared.tokens.Spent.{Spent}

@@ -9,12 +9,13 @@ use crate::laws::ranks_by_number_have_together;
 use crate::leaving::leave_all;
 use all_to_all::{open, tokens_for};
 use exchange::{Parcel, RankState, each_rank_has_its_own};
+use model_laws::{
+    cuts_ignore_order, distinct_ids_ignore_order, domains_ignore_order, orders_by_id_are_one,
+    ranks_by_id_have_all, some_have_distinct_ids,
+};
 use multisection::{Domains, ranks};
 use pf_io::Gate;
-use pf_model::{
-    Body, Grid, cuts_ignore_order, distinct_ids_ignore_order, domains_ignore_order,
-    orders_by_id_are_one, ranks_by_id_have_all, some_have_distinct_ids,
-};
+use pf_model::{Body, Grid};
 use pf_num::OutOfMemory;
 use std::alloc::Global;
 use std::sync::Wait;

@@ -1,7 +1,7 @@
 -- What the groups finished so far gave: forces, or faults of which the least is kept.
 use Rattle.std.specs.Prelude.{◌≡◌, ℤ, List, [], ◌++◌, Option, Some, None, map, nat_lt, nat_le, if◌then◌else◌}
 use Rattle.std.specs.List.{zip}
-use Rattle.pf_model.specs.Order.{in_order_once}
+use Rattle.order_laws.specs.Order.{in_order_once}
 use Rattle.pf_model.specs.Particle.{Particle}
 use Rattle.run_model.specs.declared.fault.Fault.{Fault}
 use Rattle.force_phase.specs.declared.phase.IdRow.{IdRow}

@@ -5,7 +5,7 @@ use Rattle.pf_geom.specs.Bounds.{Bounds}
 use Rattle.pf_geom.specs.Octant.{Octant, cell_at}
 use Rattle.pf_model.specs.Criterion.{Criterion, Passes}
 use Rattle.pf_geom.specs.CellLaws.{PositionsShareLowerCells}
-use Rattle.pf_model.specs.ListLaws.{IsFirstPassing}
+use Rattle.model_laws.specs.ListLaws.{IsFirstPassing}
 
 abbrev pub octant : ℕ → ℕ → Octant
 octant level key = record { level = level; key = key }

@@ -12,7 +12,7 @@ use Rattle.pf_model.specs.Criterion.{Criterion}
 use Rattle.pf_model.specs.Division.{Division, IsDivision}
 use Rattle.pf_model.specs.Domains.{owner, particles_of}
 use Rattle.pf_model.specs.Interaction.{list_of}
-use Rattle.pf_model.specs.ParticleLaws.{DistinctIdsIgnoreOrder, SomeHaveDistinctIds}
+use Rattle.model_laws.specs.ParticleLaws.{DistinctIdsIgnoreOrder, SomeHaveDistinctIds}
 use Rattle.pf_model.specs.EssentialTree.{Essential, essential_tree}
 use Rattle.group_lists.specs.declared.item_index.ItemIndex.{ItemIndex}
 use Rattle.group_lists.specs.declared.kept_source.KeptSource.{KeptSource}

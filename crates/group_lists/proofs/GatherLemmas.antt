@@ -16,9 +16,9 @@ use Rattle.pf_model.specs.Division.{Division, IsDivision}
 use Rattle.pf_model.specs.Domains.{particles_of}
 use Rattle.pf_model.specs.Sums.{moment_of}
 use Rattle.pf_model.specs.Interaction.{level_of, is_cell_at, leads_to_cell, entry_at, list_of}
-use Rattle.pf_model.specs.ListLaws.{ListsHoldTheirEntries, ListsAreShort}
-use Rattle.pf_model.specs.ListLaws.{ListsIgnoreOrder}
-use Rattle.pf_model.specs.DomainLaws.{OneRankHasItsOwn, AllRanksHaveAll}
+use Rattle.model_laws.specs.ListLaws.{ListsHoldTheirEntries, ListsAreShort}
+use Rattle.model_laws.specs.ListLaws.{ListsIgnoreOrder}
+use Rattle.model_laws.specs.DomainLaws.{OneRankHasItsOwn, AllRanksHaveAll}
 use Rattle.morton_tree.specs.declared.group.Group.{Group}
 use Rattle.group_lists.specs.declared.listed.Listed.{Listed}
 use Rattle.group_lists.specs.Gathering.{Gathering, own_gathering, partial_list, IsWhole, IsGroupOf, IsGathered}

@@ -20,10 +20,11 @@ use Rattle.pf_model.specs.Domains.{particles_of, domain_box}
 use Rattle.pf_model.specs.Totals.{Totals, IsTotals}
 use Rattle.pf_model.specs.Sums.{moment_of}
 use Rattle.pf_model.specs.Interaction.{level_of, leads_to_cell, entry_at, entry_of, list_of}
-use Rattle.pf_model.specs.Sufficiency.{lies_in, moment_together, EntriesAddUpTheirItems}
-use Rattle.pf_model.specs.ListLaws.{ListsHoldTheirEntries}
-use Rattle.pf_model.specs.MomentLaws.{MomentsKeepTheirLimits}
-use Rattle.pf_model.specs.ParticleLaws.{SomeHaveDistinctIds}
+use Rattle.pf_model.specs.Sufficiency.{lies_in, moment_together}
+use Rattle.model_laws.specs.SufficiencyLaws.{EntriesAddUpTheirItems}
+use Rattle.model_laws.specs.ListLaws.{ListsHoldTheirEntries}
+use Rattle.model_laws.specs.MomentLaws.{MomentsKeepTheirLimits}
+use Rattle.model_laws.specs.ParticleLaws.{SomeHaveDistinctIds}
 use Rattle.cell_runs.specs.declared.cell_run.CellRun.{CellRun}
 use Rattle.cell_runs.specs.CellRuns.{IsPlaceOf, IsWholeCell, IsCellRun, AreCellRuns}
 use Rattle.cell_runs.specs.RunLaws.{RunsHoldEachPlace, RunsRise}

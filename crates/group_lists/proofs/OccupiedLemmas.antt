@@ -24,9 +24,9 @@ use Rattle.pf_model.specs.Sums.{moment_of}
 use Rattle.pf_model.specs.Group.{particles_in}
 use Rattle.pf_model.specs.Interaction.{level_of, is_cell, entry_at, entry_of, comes_before, list_of}
 use Rattle.pf_model.specs.Merging.{is_level, common_count}
-use Rattle.pf_model.specs.ListLaws.{ListsHoldTheirEntries, ListsHoldFirstCells, ListsHoldNearParticles, IsFirstCell}
-use Rattle.pf_model.specs.ParticleLaws.{SomeHaveDistinctIds, ParticlesOfOneIdAreOne}
-use Rattle.pf_model.specs.DomainLaws.{OneRankHasItsOwn}
+use Rattle.model_laws.specs.ListLaws.{ListsHoldTheirEntries, ListsHoldFirstCells, ListsHoldNearParticles, IsFirstCell}
+use Rattle.model_laws.specs.ParticleLaws.{SomeHaveDistinctIds, ParticlesOfOneIdAreOne}
+use Rattle.model_laws.specs.DomainLaws.{OneRankHasItsOwn}
 use Rattle.pf_model.specs.EssentialTree.{Essential, tree_for, essential_tree, particles_of_ranks}
 use Rattle.morton_tree.specs.declared.group.Group.{Group}
 use Rattle.group_lists.specs.Gathering.{Gathering, IsNewSource, IsSentTo, CanAbsorb}

@@ -20,12 +20,12 @@ use Rattle.pf_model.specs.Domains.{owner, particles_of, domain_box}
 use Rattle.pf_model.specs.Group.{box_of}
 use Rattle.pf_model.specs.Interaction.{level_of, leads_to_cell, entry_at, list_of}
 use Rattle.pf_model.specs.Merging.{merged, common_count}
-use Rattle.pf_model.specs.MergingLaws.{ListsMerge, MergedListsShareCells}
-use Rattle.pf_model.specs.ListLaws.{ListsHoldTheirEntries, ListsIgnoreOrder, ListsAreShort}
-use Rattle.pf_model.specs.ParticleLaws.{SomeHaveDistinctIds, DistinctIdsIgnoreOrder}
-use Rattle.pf_model.specs.DomainLaws.{RanksHaveTheirOwn, OneRankHasItsOwn}
+use Rattle.model_laws.specs.MergingLaws.{ListsMerge, MergedListsShareCells}
+use Rattle.model_laws.specs.ListLaws.{ListsHoldTheirEntries, ListsIgnoreOrder, ListsAreShort}
+use Rattle.model_laws.specs.ParticleLaws.{SomeHaveDistinctIds, DistinctIdsIgnoreOrder}
+use Rattle.model_laws.specs.DomainLaws.{RanksHaveTheirOwn, OneRankHasItsOwn}
 use Rattle.pf_model.specs.EssentialTree.{particles_of_ranks, limited_list}
-use Rattle.pf_model.specs.Sufficiency.{BoxesLieInDomains}
+use Rattle.model_laws.specs.SufficiencyLaws.{BoxesLieInDomains}
 use Rattle.morton_tree.specs.Spans.{at_span}
 use Rattle.group_lists.specs.Gathering.{Gathering, IsNewSource}
 use Rattle.group_lists.specs.Pieces.{AreFewTogether}

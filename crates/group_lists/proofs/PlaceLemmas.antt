@@ -15,8 +15,8 @@ use Rattle.pf_model.specs.Division.{Division}
 use Rattle.pf_model.specs.Totals.{Totals}
 use Rattle.pf_model.specs.Domains.{particles_of, domain_box}
 use Rattle.pf_model.specs.Interaction.{level_of, entry_of, list_of}
-use Rattle.pf_model.specs.ListLaws.{ListsHoldTheirEntries, ListsHoldFirstCells, IsFirstCell}
-use Rattle.pf_model.specs.ParticleLaws.{SomeHaveDistinctIds}
+use Rattle.model_laws.specs.ListLaws.{ListsHoldTheirEntries, ListsHoldFirstCells, IsFirstCell}
+use Rattle.model_laws.specs.ParticleLaws.{SomeHaveDistinctIds}
 use Rattle.pf_model.specs.Sufficiency.{lies_in}
 use Rattle.pf_model.specs.EssentialTree.{Essential, essential_tree}
 use Rattle.group_lists.specs.Gathering.{IsSentTo}

@@ -18,8 +18,8 @@ use Rattle.pf_model.specs.Division.{Division}
 use Rattle.pf_model.specs.Domains.{particles_of, domain_box}
 use Rattle.pf_model.specs.Sums.{moment_of}
 use Rattle.pf_model.specs.Interaction.{comes_before, IsInListOrder, list_of}
-use Rattle.pf_model.specs.ListLaws.{ListsHoldTheirEntries}
-use Rattle.pf_model.specs.ParticleLaws.{SomeHaveDistinctIds}
+use Rattle.model_laws.specs.ListLaws.{ListsHoldTheirEntries}
+use Rattle.model_laws.specs.ParticleLaws.{SomeHaveDistinctIds}
 use Rattle.pf_model.specs.EssentialTree.{tree_for, essential_tree}
 use Rattle.group_lists.specs.declared.key_order.KeyPlace.{KeyPlace}
 use Rattle.group_lists.specs.Keyed.{item_key, ArePlaced}

@@ -7,8 +7,8 @@ use Rattle.pf_geom.specs.CellLaws.{PositionsHaveCells, PositionsShareLowerCells,
 use Rattle.pf_model.specs.Particle.{Particle}
 use Rattle.pf_model.specs.Criterion.{Criterion, Passes}
 use Rattle.pf_model.specs.Interaction.{level_of, entry_at, entry_of}
-use Rattle.pf_model.specs.OpeningLaws.{CellsPassForBoxesInside}
-use Rattle.pf_model.specs.ListLaws.{LevelsAreLeast}
+use Rattle.model_laws.specs.OpeningLaws.{CellsPassForBoxesInside}
+use Rattle.model_laws.specs.ListLaws.{LevelsAreLeast}
 use Rattle.group_lists.specs.Keyed.{item_position}
 use Rattle.group_lists.proofs.CellLemmas.{NonePassesBelow, first_shared}
 

@@ -17,9 +17,9 @@ use Rattle.pf_model.specs.Domains.{particles_of, domain_box}
 use Rattle.pf_model.specs.Sums.{moment_of}
 use Rattle.pf_model.specs.Interaction.{level_of, leads_to_cell, entry_at, entry_of, comes_before, list_of}
 use Rattle.pf_model.specs.Merging.{joined, with_entry, merged}
-use Rattle.pf_model.specs.MergingLaws.{ListsMerge}
-use Rattle.pf_model.specs.ListLaws.{ListsAreShort}
-use Rattle.pf_model.specs.ParticleLaws.{SomeHaveDistinctIds}
+use Rattle.model_laws.specs.MergingLaws.{ListsMerge}
+use Rattle.model_laws.specs.ListLaws.{ListsAreShort}
+use Rattle.model_laws.specs.ParticleLaws.{SomeHaveDistinctIds}
 use Rattle.pf_model.specs.EssentialTree.{tree_for, essential_tree}
 use Rattle.pf_model.specs.Sufficiency.{entry_moment, moment_together}
 

@@ -13,11 +13,9 @@ ghost use Rattle.group_lists.specs.Indexed.{IsKeptOf};
 use crate::item_index::ItemIndex;
 use crate::kept_source::KeptSource;
 use crate::key_order::{items_in_order, key_order, places_of};
+use model_laws::{lists_are_short, lists_hold_their_entries, lists_merge, some_have_distinct_ids};
 use pf_geom::{Cell, DEEPEST, corner, key_of};
-use pf_model::{
-    Entry, EssTree, MOST_PARTICLES, Moment, Terms, lists_are_short, lists_hold_their_entries,
-    lists_merge, some_have_distinct_ids,
-};
+use pf_model::{Entry, EssTree, MOST_PARTICLES, Moment, Terms};
 use pf_num::OutOfMemory;
 use std::alloc::Global;
 use std::marker::{Model, PhantomData};

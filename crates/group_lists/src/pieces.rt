@@ -8,8 +8,9 @@ use crate::keyed_tree::{KeyedTree, cell_key};
 use crate::laws::items_make_pieces;
 use crate::ordering::put_in_order;
 use cell_runs::{CellRun, find_runs};
+use model_laws::{one_rank_has_its_own, some_have_distinct_ids};
 use pf_geom::{Box3, Cell, DEEPEST, positions_have_cells};
-use pf_model::{Entry, Steps, Terms, Theta, one_rank_has_its_own, some_have_distinct_ids};
+use pf_model::{Entry, Steps, Terms, Theta};
 use pf_num::OutOfMemory;
 use std::sync::ledger::Ledger;
 

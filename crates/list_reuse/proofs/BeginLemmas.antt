@@ -15,7 +15,7 @@ use Rattle.pf_model.specs.Interaction.{list_of}
 use Rattle.pf_model.specs.Group.{box_of}
 use Rattle.pf_model.specs.EssentialTree.{essential_tree}
 use Rattle.pf_model.specs.Reuse.{as_in}
-use Rattle.pf_model.specs.ReuseLaws.{KeptListsBeginAsLists, PresentEntriesAreFound}
+use Rattle.model_laws.specs.ReuseLaws.{KeptListsBeginAsLists, PresentEntriesAreFound}
 use Rattle.morton_tree.specs.declared.group.Group.{Group}
 use Rattle.morton_tree.specs.declared.span.Span.{Span}
 use Rattle.morton_tree.specs.Spans.{at_span}

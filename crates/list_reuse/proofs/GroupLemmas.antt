@@ -14,7 +14,7 @@ use Rattle.pf_model.specs.declared.entry.Entry.TheVariants.{Cell, One}
 use Rattle.pf_model.specs.Particle.{Particle}
 use Rattle.pf_model.specs.Totals.{Totals}
 use Rattle.pf_model.specs.Sums.{moment_of}
-use Rattle.pf_model.specs.ListLaws.{IsListOf}
+use Rattle.model_laws.specs.ListLaws.{IsListOf}
 use Rattle.pf_model.specs.Interaction.{level_of, entry_at, leads_to, members_of}
 use Rattle.pf_model.specs.Group.{box_of}
 use Rattle.pf_model.specs.Reuse.{present, as_in}

@@ -13,7 +13,7 @@ use Rattle.pf_model.specs.Particle.{Particle}
 use Rattle.pf_model.specs.Domains.{owner, particles_of}
 use Rattle.pf_model.specs.Sums.{moment_of}
 use Rattle.pf_model.specs.Totals.{Totals}
-use Rattle.pf_model.specs.ListLaws.{IsListOf}
+use Rattle.model_laws.specs.ListLaws.{IsListOf}
 use Rattle.pf_model.specs.Interaction.{level_of, entry_at, list_of, leads_to, members_of}
 use Rattle.pf_model.specs.Sufficiency.{lies_in, items_in, moment_together}
 use Rattle.pf_model.specs.Reuse.{present, as_in}

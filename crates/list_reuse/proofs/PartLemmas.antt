@@ -17,7 +17,7 @@ use Rattle.pf_model.specs.Particle.{Particle, IsParticle}
 use Rattle.pf_model.specs.Particles.{HaveDistinctIds}
 use Rattle.pf_model.specs.Domains.{owner, particles_of, domain_box}
 use Rattle.pf_model.specs.Sums.{moment_of}
-use Rattle.pf_model.specs.ListLaws.{IsListOf, IsFirstPassing}
+use Rattle.model_laws.specs.ListLaws.{IsListOf, IsFirstPassing}
 use Rattle.pf_model.specs.Interaction.{level_of, entry_at, list_of, leads_to, members_of}
 use Rattle.pf_model.specs.Group.{box_of}
 use Rattle.pf_model.specs.EssentialTree.{tree_for, essential_tree}

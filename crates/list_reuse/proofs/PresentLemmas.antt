@@ -13,11 +13,11 @@ use Rattle.pf_model.specs.Particle.{Particle}
 use Rattle.pf_model.specs.Particles.{HaveDistinctIds}
 use Rattle.pf_model.specs.Domains.{owner, particles_of, domain_box}
 use Rattle.pf_model.specs.Sums.{moment_of}
-use Rattle.pf_model.specs.ListLaws.{IsListOf}
+use Rattle.model_laws.specs.ListLaws.{IsListOf}
 use Rattle.pf_model.specs.Interaction.{level_of, list_of, leads_to, members_of}
 use Rattle.pf_model.specs.EssentialTree.{tree_for, essential_tree}
 use Rattle.pf_model.specs.Reuse.{present, as_in, present_entry}
-use Rattle.pf_model.specs.ReuseLaws.{PresentOfSomeStaySome, PresentEntriesAreFound}
+use Rattle.model_laws.specs.ReuseLaws.{PresentOfSomeStaySome, PresentEntriesAreFound}
 use Rattle.list_reuse.specs.Refreshing.{present_items}
 use Rattle.list_reuse.specs.Keeping.{Motion, IsMotion, sent_from, values_from}
 use Rattle.list_reuse.specs.KeepLaws.{Laws}

@@ -17,12 +17,12 @@ use Rattle.pf_model.specs.Particle.{Particle}
 use Rattle.pf_model.specs.Particles.{HaveDistinctIds, HaveSameIds}
 use Rattle.pf_model.specs.Criterion.{Criterion}
 use Rattle.pf_model.specs.Sums.{moment_of}
-use Rattle.pf_model.specs.MomentLaws.{MomentsIgnoreOrder}
-use Rattle.pf_model.specs.ListLaws.{IsListOf, ListsHoldTheirEntries}
-use Rattle.pf_model.specs.ParticleLaws.{SomeHaveDistinctIds}
+use Rattle.model_laws.specs.MomentLaws.{MomentsIgnoreOrder}
+use Rattle.model_laws.specs.ListLaws.{IsListOf, ListsHoldTheirEntries}
+use Rattle.model_laws.specs.ParticleLaws.{SomeHaveDistinctIds}
 use Rattle.pf_model.specs.Interaction.{level_of, entry_at, list_of, leads_to, members_of}
 use Rattle.pf_model.specs.Reuse.{present, as_in, present_entry}
-use Rattle.pf_model.specs.ReuseLaws.{PresentAreFound, PresentEntriesAreFound}
+use Rattle.model_laws.specs.ReuseLaws.{PresentAreFound, PresentEntriesAreFound}
 use Rattle.morton_tree.specs.declared.span.Span.{Span}
 use Rattle.morton_tree.specs.Tree.{Octree, IsOctree}
 use Rattle.morton_tree.specs.Spans.{at_span}

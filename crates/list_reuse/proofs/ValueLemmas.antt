@@ -4,7 +4,7 @@ use Rattle.std.proofs.lemmas.List.{take_more, take-append-drop, map-append, map_
 use Rattle.pf_model.specs.declared.entry.Entry.{Entry}
 use Rattle.pf_model.specs.Totals.{Totals}
 use Rattle.pf_model.specs.Sums.{moment_of, together}
-use Rattle.pf_model.specs.MomentLaws.{MomentsJoinInAnyOrder, EntriesJoinTheirMoments}
+use Rattle.model_laws.specs.MomentLaws.{MomentsJoinInAnyOrder, EntriesJoinTheirMoments}
 use Rattle.pf_model.specs.Sufficiency.{entry_moment, moment_together}
 use Rattle.list_reuse.specs.Renewing.{values_at}
 

@@ -1,11 +1,11 @@
 -- The laws by which kept lists are renewed.
-use Rattle.pf_model.specs.DomainLaws.{AllRanksHaveAll}
-use Rattle.pf_model.specs.MomentLaws.{MomentsIgnoreOrder, MomentsAddUp, EntriesJoinInAnyOrder}
-use Rattle.pf_model.specs.ListLaws.{LevelsAreLeast, ListsHoldTheirEntries, FirstCellsHoldTheirMembers}
-use Rattle.pf_model.specs.ParticleLaws.{SomeHaveDistinctIds, ParticlesOfOneIdAreOne, DistinctIdsIgnoreOrder}
-use Rattle.pf_model.specs.Sufficiency.{BoxesLieInDomains}
-use Rattle.pf_model.specs.ReuseLaws.{PresentIgnoresOrder, PresentAreFound, PresentMembersAreOfRanks}
-use Rattle.pf_model.specs.ReuseLaws.{KeptEntriesAddUpItemsOfSome}
+use Rattle.model_laws.specs.DomainLaws.{AllRanksHaveAll}
+use Rattle.model_laws.specs.MomentLaws.{MomentsIgnoreOrder, MomentsAddUp, EntriesJoinInAnyOrder}
+use Rattle.model_laws.specs.ListLaws.{LevelsAreLeast, ListsHoldTheirEntries, FirstCellsHoldTheirMembers}
+use Rattle.model_laws.specs.ParticleLaws.{SomeHaveDistinctIds, ParticlesOfOneIdAreOne, DistinctIdsIgnoreOrder}
+use Rattle.model_laws.specs.SufficiencyLaws.{BoxesLieInDomains}
+use Rattle.model_laws.specs.ReuseLaws.{PresentIgnoresOrder, PresentAreFound, PresentMembersAreOfRanks}
+use Rattle.model_laws.specs.ReuseLaws.{KeptEntriesAddUpItemsOfSome}
 
 -- what is known of lists, of what is present, and of moments
 pub record Laws : Type 0 where

@@ -5,7 +5,7 @@ ghost use Rattle.list_reuse.specs.KeepingLaws.{ListsOfABuildAreKept, RefreshedVa
 ghost use Rattle.list_reuse.specs.KeepingLaws.{MovedBodiesArePresent};
 
 use crate::laws::laws;
-use pf_model::{kept_lists_begin_as_lists, present_entries_are_found, present_of_some_stay_some};
+use model_laws::{kept_lists_begin_as_lists, present_entries_are_found, present_of_some_stay_some};
 
 /// The lists of a build are kept lists.
 pub fn lists_of_a_build_are_kept()

@@ -2,7 +2,7 @@
 
 ghost use Rattle.list_reuse.specs.KeepLaws.{Laws};
 
-use pf_model::{
+use model_laws::{
     all_ranks_have_all, boxes_lie_in_domains, distinct_ids_ignore_order, entries_join_in_any_order,
     first_cells_hold_their_members, kept_entries_add_up_items_of_some, levels_are_least,
     lists_hold_their_entries, moments_add_up, moments_ignore_order, particles_of_one_id_are_one,

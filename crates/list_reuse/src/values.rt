@@ -5,10 +5,9 @@ ghost use Rattle.list_reuse.specs.Refreshing.{Renewal};
 ghost use Rattle.list_reuse.specs.Renewing.{values_at};
 
 use crate::refresh::Refresh;
+use model_laws::{entries_join_their_moments, moments_join_in_any_order};
 use morton_tree::Span;
-use pf_model::{
-    Entry, MOST_PARTICLES, Moment, entries_join_their_moments, moments_join_in_any_order,
-};
+use pf_model::{Entry, MOST_PARTICLES, Moment};
 
 // The values that came from a rank.
 pub(crate) fn values_from(parcels: &[Refresh], src: u32) -> &[Entry]

@@ -4,7 +4,7 @@ use Rattle.std.proofs.lemmas.Int.{ints}
 use Rattle.std.proofs.lemmas.List.Sums.{sum_by-append}
 use Rattle.pf_model.specs.Particle.{Particle}
 use Rattle.pf_model.specs.Sums.{moment_of, int_sum_by, attribute}
-use Rattle.pf_model.specs.MomentLaws.{MomentsAddUp}
+use Rattle.model_laws.specs.MomentLaws.{MomentsAddUp}
 
 add_none : (a : ℤ) → a ≡ pos 0 +ℤ a
 add_none a = omega (arith, ints)

@@ -9,7 +9,7 @@ use Rattle.std.proofs.lemmas.List.Sums.{count_by-le-length}
 use Rattle.pf_geom.specs.Octant.{Octant}
 use Rattle.pf_model.specs.Particle.{Particle}
 use Rattle.pf_model.specs.Group.{particles_in, group_level, group_cell, box_of}
-use Rattle.pf_model.specs.GroupLaws.{PositionsShareTheirGroup}
+use Rattle.model_laws.specs.GroupLaws.{PositionsShareTheirGroup}
 use Rattle.morton_tree.specs.Tree.{IsInKeyOrder}
 use Rattle.morton_tree.specs.declared.span.Span.{Span}
 use Rattle.morton_tree.specs.declared.group.Group.{Group}

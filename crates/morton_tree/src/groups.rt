@@ -8,8 +8,9 @@ ghost use Rattle.morton_tree.specs.Groups.{group_in, groups_of, IsGroup};
 use crate::group::Group;
 use crate::span::Span;
 use crate::tree::Tree;
+use model_laws::{group_levels_are_least, positions_share_their_group};
 use pf_geom::{Cell, DEEPEST, Point, cell_of, cells_of_a_position_nest};
-use pf_model::{Body, MOST_GROUP, box_of, group_levels_are_least, positions_share_their_group};
+use pf_model::{Body, MOST_GROUP, box_of};
 use pf_num::OutOfMemory;
 use std::alloc::Global;
 

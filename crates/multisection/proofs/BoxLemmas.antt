@@ -12,7 +12,7 @@ use Rattle.pf_geom.specs.Bounds.{Bounds}
 use Rattle.pf_model.specs.Particle.{Particle}
 use Rattle.pf_model.specs.Division.{Division, IsDivision, rank_count}
 use Rattle.pf_model.specs.Domains.{Multisection, IsMultisection, cuts_in_slab, cuts_in_column, slab_start, slab_end, owner_by, box_by, cuts_for, owner, domain_box}
-use Rattle.pf_model.specs.DomainLaws.{OwnersAreRanks, BoxesByCutsHoldWhatIsOwned}
+use Rattle.model_laws.specs.DomainLaws.{OwnersAreRanks, BoxesByCutsHoldWhatIsOwned}
 use Rattle.multisection.specs.Regions.{HoldsWhatIsOwned, AreRegions, IsTarget, AreTargets, box_where_owned, boxes_by, regions_by, regions_of}
 
 -- one end of a rank's box

@@ -12,11 +12,11 @@ use Rattle.pf_geom.specs.declared.axis.Axis.{Axis}
 use Rattle.pf_geom.specs.declared.axis.Axis.TheVariants.{X, Y, Z}
 use Rattle.pf_model.specs.Particle.{Particle}
 use Rattle.pf_model.specs.Particles.{HaveDistinctIds, AreBodies}
-use Rattle.pf_model.specs.ParticleLaws.{DistinctIdsIgnoreOrder, SomeHaveDistinctIds}
+use Rattle.model_laws.specs.ParticleLaws.{DistinctIdsIgnoreOrder, SomeHaveDistinctIds}
 use Rattle.pf_model.specs.Division.{Division}
 use Rattle.pf_model.specs.Domains.{slab_of, cuts_of, y_cuts, z_cuts, cuts_for}
-use Rattle.pf_model.specs.DomainLaws.{OrdersAlongAreOne, CutsAlongIgnoreOrder}
-use Rattle.pf_model.specs.OrderLaws.{TestsKeepPermutations}
+use Rattle.model_laws.specs.DomainLaws.{OrdersAlongAreOne, CutsAlongIgnoreOrder}
+use Rattle.order_laws.specs.OrderLaws.{TestsKeepPermutations}
 use Rattle.multisection.specs.Sites.{site_of, along, IsInOrder, in_slab_along, column_cuts}
 use Rattle.multisection.proofs.OrderLemmas.{cuts_of-map, ids_kept}
 use Rattle.multisection.proofs.RunLemmas.{slab_at, filter-map}

@@ -16,7 +16,7 @@ use Rattle.pf_geom.specs.Position.{Position}
 use Rattle.pf_geom.specs.declared.axis.Axis.{Axis}
 use Rattle.pf_model.specs.Particle.{Particle}
 use Rattle.pf_model.specs.Particles.{HaveDistinctIds}
-use Rattle.pf_model.specs.Order.{placed, in_order_once}
+use Rattle.order_laws.specs.Order.{placed, in_order_once}
 use Rattle.pf_model.specs.Domains.{comes_first, coordinates_of, cuts_of}
 use Rattle.multisection.specs.Sites.{along, IsInOrder}
 

@@ -4,8 +4,9 @@ ghost use Rattle.pf_model.specs.Division.{rank_count};
 ghost use Rattle.pf_model.specs.Domains.{owner_by, box_by, IsMultisection, AreCuts, cuts_in_slab, cuts_in_column};
 
 use crate::slab::{slab_end, slab_of, slab_start};
+use model_laws::owners_by_cuts_are_ranks;
 use pf_geom::{Box3, Point};
-use pf_model::{Grid, owners_by_cuts_are_ranks};
+use pf_model::Grid;
 use std::marker::Model;
 
 // Where the cube is cut: along x, then along y in each slab of x, then along z in each column of each slab.

@@ -11,12 +11,13 @@ ghost use Rattle.multisection.specs.Sites.{along, column_cuts, IsInOrder};
 use crate::cuts::Cuts;
 use crate::site::{Site, sites_of};
 use crate::slab::{CUBE_SIDE, slab_of};
-use pf_geom::Axis;
-use pf_model::{
-    Body, Grid, MOST_PARTICLES, MOST_RANKS, cuts_along_ignore_order, cuts_ascend,
-    distinct_ids_ignore_order, orders_along_are_one, some_have_distinct_ids,
-    tests_keep_permutations,
+use model_laws::{
+    cuts_along_ignore_order, cuts_ascend, distinct_ids_ignore_order, orders_along_are_one,
+    some_have_distinct_ids,
 };
+use order_laws::tests_keep_permutations;
+use pf_geom::Axis;
+use pf_model::{Body, Grid, MOST_PARTICLES, MOST_RANKS};
 use pf_num::OutOfMemory;
 use std::alloc::Global;
 

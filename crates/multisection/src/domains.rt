@@ -7,8 +7,9 @@ ghost use Rattle.multisection.specs.Regions.{AreRegions, AreTargets, regions_of,
 
 use crate::cuts::Cuts;
 use crate::cutting::cut;
+use model_laws::{boxes_by_cuts_hold_what_is_owned, owners_are_ranks};
 use pf_geom::{Box3, Point};
-use pf_model::{Body, Grid, boxes_by_cuts_hold_what_is_owned, owners_are_ranks};
+use pf_model::{Body, Grid};
 use pf_num::OutOfMemory;
 use std::alloc::Global;
 use std::marker::Model;

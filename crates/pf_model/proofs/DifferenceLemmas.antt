@@ -2,9 +2,7 @@
 use Rattle.std.proofs.Common.{◌≡◌, ℕ, zero, suc, ◌+◌, ◌-◌, ◌<◌, ℤ, ◌+ℤ◌, ◌-ℤ◌, List, [], ◌∷◌, ◌++◌, length, get_or, take, drop, set, refl, sym, ◌∙◌, ap, arith}
 use Rattle.std.proofs.lemmas.Int.{ints}
 use Rattle.pf_model.specs.Totals.{Totals, IsTotals}
-use Rattle.pf_model.specs.Particle.{Particle}
-use Rattle.pf_model.specs.Sums.{moment_of, together, pairwise_sums, pairwise_differences}
-use Rattle.pf_model.specs.MomentLaws.{MomentsCancel}
+use Rattle.pf_model.specs.Sums.{together, pairwise_sums, pairwise_differences}
 
 -- one difference more
 pub pairwise_differences-more : (xs ys : List ℤ) (k : ℕ) (d : ℤ) → k < length xs → length xs ≡ length ys →
@@ -66,18 +64,3 @@ difference_is m n three same =
 pub rest_is : (a s rest : Totals) (attr : List ℤ) → a ≡ together s rest → IsTotals rest → length s.attr ≡ 8 → attr ≡ pairwise_differences a.attr s.attr → record (difference a s) { attr = attr } ≡ rest
 rest_is a s rest attr makes limits eight attr_is =
     ap (λ (l : List ℤ). record (difference a s) { attr = l }) attr_is ∙ ap (λ (t : Totals). difference t s) makes ∙ difference_is s rest limits.three (eight ∙ sym limits.eight)
-
-three_weighted : (js : List Particle) → length (moment_of js).weighted ≡ 3
-unfolding moment_of
-three_weighted js = refl
-
-eight_attributes : (js : List Particle) → length (moment_of js).attr ≡ 8
-unfolding moment_of
-eight_attributes js = refl
-
-pub moments_cancel : MomentsCancel
-moments_cancel is js ks same =
-    let m = moment_of is in
-    let left = difference_is m (moment_of js) (three_weighted js) (eight_attributes is ∙ sym (eight_attributes js)) in
-    let right = difference_is m (moment_of ks) (three_weighted ks) (eight_attributes is ∙ sym (eight_attributes ks)) in
-    sym left ∙ ap (λ (t : Totals). difference t m) same ∙ right

@@ -1,31 +1,8 @@
-mod CriterionLemmas
-mod OrderLemmas
-mod EntryLemmas
-mod LeastLemmas
-mod ListLemmas
-mod LevelLemmas
-mod MomentLemmas
-mod GroupLemmas
-mod OrderlessSums
-mod DifferenceLemmas
-mod BoxLemmas
-mod RankLemmas
-mod PermutationLemmas
-mod MemberLemmas
-mod GroupOrderLemmas
-mod LimitLemmas
-mod ListCellLemmas
-mod ReuseLemmas
-mod CutLemmas
-mod DomainLemmas
-mod DomainOrderLemmas
-mod MergeLemmas
-mod ListMergeLemmas
-mod SufficiencyLemmas
-mod IdLemmas
+pub mod BoxLemmas
+pub mod DifferenceLemmas
+pub mod EntryLemmas
 mod EveryLemmas
-mod TogetherLemmas
-mod PresentLemmas
-mod KeptLemmas
-mod RisingLemmas
-mod PlaceLemmas
+pub mod GroupLemmas
+pub mod LevelLemmas
+mod ListLemmas
+pub mod MomentLemmas

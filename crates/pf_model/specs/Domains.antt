@@ -10,7 +10,7 @@ use Rattle.pf_geom.specs.Position.{Position, along}
 use Rattle.pf_geom.specs.Bounds.{Bounds}
 use Rattle.pf_model.specs.Particle.{Particle}
 use Rattle.pf_model.specs.Division.{Division, IsDivision}
-use Rattle.pf_model.specs.Order.{in_order_once}
+use Rattle.order_laws.specs.Order.{in_order_once}
 
 -- a multisection as clauses see it: the cuts along x, then those along y in each slab of x, and then those along
 -- z in each column of each slab

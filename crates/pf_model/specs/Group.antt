@@ -6,7 +6,7 @@ use Rattle.pf_geom.specs.Position.{Position}
 use Rattle.pf_geom.specs.Bounds.{Bounds, box_round}
 use Rattle.pf_geom.specs.Octant.{Octant, cell_at}
 use Rattle.pf_model.specs.Particle.{Particle}
-use Rattle.pf_model.specs.Order.{least_below, in_order_once}
+use Rattle.order_laws.specs.Order.{least_below, in_order_once}
 use Rattle.pf_model.specs.Interaction.{is_cell}
 
 -- the particles that lie in a cell

@@ -11,7 +11,7 @@ use Rattle.pf_model.specs.declared.entry.Entry.TheVariants.{Cell, One}
 use Rattle.pf_model.specs.Particle.{Particle}
 use Rattle.pf_model.specs.Criterion.{Criterion}
 use Rattle.pf_model.specs.Totals.{Source}
-use Rattle.pf_model.specs.Order.{least_below, in_order_once}
+use Rattle.order_laws.specs.Order.{least_below, in_order_once}
 use Rattle.pf_model.specs.Sums.{moment_of, source_of}
 
 -- whether `Passes` holds

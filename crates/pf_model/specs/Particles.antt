@@ -4,7 +4,7 @@ use Rattle.std.specs.List.{IsDistinct, IsDistinct-prop}
 use Rattle.std.proofs.Props.{props}
 use Rattle.pf_model.specs.declared.limits.TheConstants.{MOST_PARTICLES}
 use Rattle.pf_model.specs.Particle.{Particle}
-use Rattle.pf_model.specs.Order.{in_order_once}
+use Rattle.order_laws.specs.Order.{in_order_once}
 
 -- no two particles have one id
 abbrev pub HaveDistinctIds : List Particle → Type 0

@@ -1,20 +1,12 @@
--- How the items of an essential tree make the entries of the lists that it serves.
-use Rattle.std.specs.Prelude.{◌≡◌, ℕ, ◌<◌, ◌↔◌, Bool, false, ◌&&◌, List, [], ◌∷◌, length, filter, All, Contains}
-use Rattle.std.specs.Prelude.{IsTrue, slice_index_or, nat_le, nat_eq, ◌≤◌}
-use Rattle.pf_geom.specs.Position.{IsPosition}
-use Rattle.pf_geom.specs.Bounds.{Bounds, IsBox, IsWithin}
+-- Which items lie in an entry, and what entries stand for together.
+use Rattle.std.specs.Prelude.{Bool, false, ◌&&◌, List, [], ◌∷◌, filter}
+use Rattle.std.specs.Prelude.{nat_le, nat_eq}
 use Rattle.pf_geom.specs.Octant.{cell_at, ancestor_at}
 use Rattle.pf_model.specs.declared.entry.Entry.{Entry}
 use Rattle.pf_model.specs.declared.entry.Entry.TheVariants.{Cell, One}
-use Rattle.pf_model.specs.Particle.{Particle}
-use Rattle.pf_model.specs.Particles.{HaveDistinctIds}
-use Rattle.pf_model.specs.Criterion.{Criterion}
-use Rattle.pf_model.specs.Division.{Division, IsDivision}
 use Rattle.pf_model.specs.Totals.{Totals}
 use Rattle.pf_model.specs.Sums.{moment_of, together}
-use Rattle.pf_model.specs.Interaction.{is_cell, list_of}
-use Rattle.pf_model.specs.Domains.{owner, domain_box}
-use Rattle.pf_model.specs.Group.{box_of}
+use Rattle.pf_model.specs.Interaction.{is_cell}
 
 -- whether an item lies in an entry: in its cell, or as the entry itself
 abbrev pub lies_in : Entry → Entry → Bool
@@ -36,25 +28,3 @@ entry_moment (One p) = moment_of (p ∷ [])
 abbrev pub moment_together : List Entry → Totals
 moment_together [] = moment_of []
 moment_together (e ∷ es) = together (entry_moment e) (moment_together es)
-
--- for a box inside a box, each item of the outer list lies in exactly one entry of the inner list
-abbrev pub ItemsLieInOneEntry : Type 0
-ItemsLieInOneEntry =
-    (t : Criterion) (inner outer : Bounds) (js : List Particle) (f : Entry) → IsBox inner → IsBox outer →
-    IsWithin inner outer → HaveDistinctIds js → Contains (list_of t outer js) f →
-    (k : ℕ) × (k < length (list_of t inner js)) × ((i : ℕ) (e : Entry) → i < length (list_of t inner js) →
-    IsTrue (lies_in f (slice_index_or (list_of t inner js) i e)) ↔ (i ≡ k))
-
--- and the moment of an entry is the sum over its items
-abbrev pub EntriesAddUpTheirItems : Type 0
-EntriesAddUpTheirItems =
-    (t : Criterion) (inner outer : Bounds) (js : List Particle) (e : Entry) → IsBox inner → IsBox outer →
-    IsWithin inner outer → HaveDistinctIds js → Contains (list_of t inner js) e →
-    entry_moment e ≡ moment_together (items_in e (list_of t outer js))
-
--- the box round particles that a rank owns lies inside its domain box
-abbrev pub BoxesLieInDomains : Type 0
-BoxesLieInDomains =
-    (g : Division) (js members : List Particle) (rank : ℕ) → IsDivision g → All (λ j. IsPosition j.at) js →
-    1 ≤ length members → All (λ j. IsPosition j.at) members → All (λ j. owner g js j.at ≡ rank) members →
-    IsBox (box_of members) × IsBox (domain_box g js rank) × IsWithin (box_of members) (domain_box g js rank)

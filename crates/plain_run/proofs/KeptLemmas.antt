@@ -12,7 +12,7 @@ use Rattle.pf_model.specs.Particles.{AreBodies, HaveDistinctIds}
 use Rattle.pf_model.specs.Criterion.{Criterion}
 use Rattle.pf_model.specs.Sums.{moment_of}
 use Rattle.pf_model.specs.Interaction.{level_of, is_cell, is_cell_at, leads_to_cell, entry_at, list_of, members_of}
-use Rattle.pf_model.specs.ListLaws.{ListsHoldTheirEntries}
+use Rattle.model_laws.specs.ListLaws.{ListsHoldTheirEntries}
 use Rattle.pf_model.specs.Reuse.{present, present_entry, kept_list}
 use Rattle.plain_run.specs.Lists.{HasMembers, HaveOneOrder, is_of_cell}
 

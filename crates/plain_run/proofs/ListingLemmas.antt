@@ -15,8 +15,8 @@ use Rattle.pf_model.specs.Criterion.{Criterion}
 use Rattle.pf_model.specs.Division.{Division, IsDivision, rank_count}
 use Rattle.pf_model.specs.Domains.{owner, particles_of, domain_box}
 use Rattle.pf_model.specs.Interaction.{list_of}
-use Rattle.pf_model.specs.ListLaws.{ListsAreShort}
-use Rattle.pf_model.specs.Order.{placed, in_order_once}
+use Rattle.model_laws.specs.ListLaws.{ListsAreShort}
+use Rattle.order_laws.specs.Order.{placed, in_order_once}
 use Rattle.pf_model.specs.Group.{particles_in, group_cell, group_cells, box_of, has_lower_corner}
 use Rattle.pf_model.specs.Groups.{RankGroup, groups_of_rank, group_with, group_list}
 use Rattle.pf_model.specs.EssentialTree.{tree_for, essential_tree}

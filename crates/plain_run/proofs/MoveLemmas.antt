@@ -4,7 +4,7 @@ use Rattle.std.specs.Prelude.{slice_index_or, option_map}
 use Rattle.std.proofs.Math.Seq.{drop-cons, take-suc}
 use Rattle.std.proofs.lemmas.List.{map-append, get_or-take, get_or-drop}
 use Rattle.pf_geom.specs.declared.axis.Axis.{Axis}
-use Rattle.pf_model.specs.Order.{first_some}
+use Rattle.order_laws.specs.Order.{first_some}
 use Rattle.pf_model.specs.Particle.{Particle}
 use Rattle.run_model.specs.Setup.{Setup}
 use Rattle.run_model.specs.Force.{acc_place, acceleration, first_given}

@@ -8,10 +8,10 @@ use Rattle.pf_geom.specs.Position.{IsPosition}
 use Rattle.pf_geom.specs.Bounds.{IsBox}
 use Rattle.pf_model.specs.Particle.{Particle}
 use Rattle.pf_model.specs.Particles.{AreBodies}
-use Rattle.pf_model.specs.ParticleLaws.{SomeHaveDistinctIds}
+use Rattle.model_laws.specs.ParticleLaws.{SomeHaveDistinctIds}
 use Rattle.pf_model.specs.Division.{Division, IsDivision, rank_count}
 use Rattle.pf_model.specs.Domains.{owner, particles_of, domain_box}
-use Rattle.pf_model.specs.DomainLaws.{OwnersAreRanks, DomainBoxesHoldWhatIsOwned}
+use Rattle.model_laws.specs.DomainLaws.{OwnersAreRanks, DomainBoxesHoldWhatIsOwned}
 
 -- some of a list of bodies are such a list
 pub some_are_bodies : SomeHaveDistinctIds → (test : Particle → Bool) (js : List Particle) → AreBodies js → AreBodies (filter test js)

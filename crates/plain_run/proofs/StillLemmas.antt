@@ -4,7 +4,7 @@ use Rattle.std.specs.List.{IsDistinct}
 use Rattle.std.proofs.lemmas.List.{length-map, take_at}
 use Rattle.pf_model.specs.Particle.{Particle}
 use Rattle.pf_model.specs.Particles.{AreBodies, by_id}
-use Rattle.pf_model.specs.IdLaws.{OrdersByIdHaveDistinctIds}
+use Rattle.model_laws.specs.IdLaws.{OrdersByIdHaveDistinctIds}
 use Rattle.run_model.specs.Setup.{Setup}
 use Rattle.run_model.specs.Run.{WithForces, State, with_forces, moved, moved_body, kicked_again, lists_fault}
 use Rattle.plain_run.specs.Lists.{HaveOneOrder}

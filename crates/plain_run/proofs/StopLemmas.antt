@@ -1,6 +1,6 @@
 -- First faults, and the answers that tell them.
 use Rattle.std.proofs.Common.{◌≡◌, ℕ, ◌+◌, ◌<◌, List, length, get_or, drop, Option, None, sym, ap, subst, ◌∙◌}
-use Rattle.pf_model.specs.Order.{first_some}
+use Rattle.order_laws.specs.Order.{first_some}
 use Rattle.run_model.specs.Force.{first_given}
 use Rattle.run_model.specs.Run.{Stop}
 use Rattle.plain_run.specs.declared.stop.SlowStop.{SlowStop}

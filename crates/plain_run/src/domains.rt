@@ -7,8 +7,9 @@ ghost use Rattle.pf_geom.specs.Bounds.{IsBox};
 ghost use Rattle.plain_run.specs.Boxes.{IsDomainBox, IsRankAt};
 
 use crate::cutting::{CUBE_SIDE, slab_of, x_cuts, y_cuts, z_cuts};
+use model_laws::{domain_boxes_hold_what_is_owned, owners_are_ranks};
 use pf_geom::{Box3, Point};
-use pf_model::{Body, Grid, domain_boxes_hold_what_is_owned, owners_are_ranks};
+use pf_model::{Body, Grid};
 use pf_num::OutOfMemory;
 use std::alloc::Global;
 

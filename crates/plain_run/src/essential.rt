@@ -3,7 +3,8 @@ ghost use Rattle.pf_model.specs.Particles.{AreBodies};
 ghost use Rattle.pf_model.specs.EssentialTree.{essential_tree};
 
 use crate::domains::{particles_of, slow_domain_box};
-use pf_model::{Body, Entry, Grid, Theta, slow_list, some_have_distinct_ids};
+use model_laws::some_have_distinct_ids;
+use pf_model::{Body, Entry, Grid, Theta, slow_list};
 use pf_num::OutOfMemory;
 use std::alloc::Global;
 

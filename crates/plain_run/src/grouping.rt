@@ -4,8 +4,9 @@ ghost use Rattle.pf_model.specs.Group.{particles_in, group_cell, group_cells, bo
 ghost use Rattle.pf_model.specs.Interaction.{is_cell};
 
 use crate::ordering::place_cell;
+use model_laws::group_levels_are_least;
 use pf_geom::{Box3, Cell, DEEPEST, Point, cell_of};
-use pf_model::{Body, box_of, group_levels_are_least};
+use pf_model::{Body, box_of};
 use pf_num::OutOfMemory;
 use std::alloc::Global;
 

@@ -7,11 +7,9 @@ ghost use Rattle.pf_model.specs.Reuse as rules;
 ghost use Rattle.pf_model.specs.Sums.{moment_of};
 ghost use Rattle.plain_run.specs.Lists.{HasMembers, HaveOneOrder, is_of_cell};
 
+use model_laws::{lists_are_short, lists_hold_their_entries, moments_add_up};
 use pf_geom::{Box3, Cell};
-use pf_model::{
-    Body, Entry, MOST_PARTICLES, Moment, Theta, lists_are_short, lists_hold_their_entries,
-    moments_add_up, slow_list,
-};
+use pf_model::{Body, Entry, MOST_PARTICLES, Moment, Theta, slow_list};
 use pf_num::OutOfMemory;
 use std::alloc::Global;
 use std::slice::from_ref;

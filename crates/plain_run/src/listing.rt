@@ -12,7 +12,8 @@ use crate::domains::{particles_of, slow_owner};
 use crate::essential::slow_essential;
 use crate::grouping::{box_of_cell, group_cell, group_cells};
 use crate::kept::{found, kept_list};
-use pf_model::{Body, Entry, Grid, Theta, lists_are_short, slow_list};
+use model_laws::lists_are_short;
+use pf_model::{Body, Entry, Grid, Theta, slow_list};
 use pf_num::OutOfMemory;
 use std::alloc::Global;
 

@@ -17,15 +17,15 @@ use Rattle.pf_model.specs.declared.entry.Entry.{Entry}
 use Rattle.pf_model.specs.Criterion.{Criterion}
 use Rattle.pf_model.specs.Division.{Division, IsDivision, rank_count}
 use Rattle.pf_model.specs.Domains.{owner, particles_of}
-use Rattle.pf_model.specs.DomainLaws.{AllRanksHaveAll, OwnersAreRanks}
+use Rattle.model_laws.specs.DomainLaws.{AllRanksHaveAll, OwnersAreRanks}
 use Rattle.pf_model.specs.EssentialTree.{essential_tree}
 use Rattle.pf_model.specs.Group.{particles_in, group_cell, group_of, group_cells, box_of}
-use Rattle.pf_model.specs.GroupLaws.{GroupsIgnoreOrder, BoxesIgnoreOrder}
+use Rattle.model_laws.specs.GroupLaws.{GroupsIgnoreOrder, BoxesIgnoreOrder}
 use Rattle.pf_model.specs.Groups.{RankGroup, groups_of_rank, all_groups, group_list}
 use Rattle.pf_model.specs.Interaction.{is_cell, list_of}
 use Rattle.pf_model.specs.Particle.{Particle}
 use Rattle.pf_model.specs.Reuse.{kept_list}
-use Rattle.pf_model.specs.ReuseLaws.{KeptListsBeginAsLists}
+use Rattle.model_laws.specs.ReuseLaws.{KeptListsBeginAsLists}
 use Rattle.morton_tree.specs.declared.group.Group.{Group}
 use Rattle.morton_tree.specs.declared.span.Span.{Span}
 use Rattle.morton_tree.specs.Spans.{at_span, FollowOneAnother}

@@ -8,8 +8,8 @@ use Rattle.std.proofs.lemmas.List.Sorted.{Contains-permutation, IsPermutation-sy
 use Rattle.kern_tree.specs.declared.kernel.Kernel.{Kernel}
 use Rattle.pf_geom.specs.declared.edge.Edge.{Edge}
 use Rattle.pf_model.specs.declared.entry.Entry.{Entry}
-use Rattle.pf_model.specs.IdLaws.{OrdersByIdAreOne}
-use Rattle.pf_model.specs.Order.{in_order_once}
+use Rattle.model_laws.specs.IdLaws.{OrdersByIdAreOne}
+use Rattle.order_laws.specs.Order.{in_order_once}
 use Rattle.pf_model.specs.Particle.{Particle}
 use Rattle.group_lists.specs.Whole.{GroupList}
 use Rattle.force_phase.specs.declared.phase.IdRow.{IdRow}

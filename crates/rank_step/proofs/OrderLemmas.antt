@@ -5,7 +5,7 @@ use Rattle.std.specs.List.{AllPairs, AllByRecursion, IsDistinct}
 use Rattle.std.specs.List.Sorted.{IsStrictlyIncreasing}
 use Rattle.std.proofs.lemmas.Bool.{lt-ltb, ne_eqb}
 use Rattle.std.proofs.lemmas.List.Kept.{AllPairs-from_increasing}
-use Rattle.pf_model.specs.Order.{placed, in_order_once}
+use Rattle.order_laws.specs.Order.{placed, in_order_once}
 use Rattle.pf_model.specs.Particle.{Particle}
 use Rattle.pf_model.specs.Particles.{HaveDistinctIds, by_id}
 

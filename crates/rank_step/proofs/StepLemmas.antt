@@ -14,10 +14,10 @@ use Rattle.pf_model.specs.declared.limits.TheConstants.{MOST_GROUP, MOST_PARTICL
 use Rattle.pf_model.specs.Criterion.{Criterion}
 use Rattle.pf_model.specs.Division.{Division}
 use Rattle.pf_model.specs.Domains.{owner, owner_by}
-use Rattle.pf_model.specs.Order.{first_some}
+use Rattle.order_laws.specs.Order.{first_some}
 use Rattle.pf_model.specs.Particle.{Particle}
-use Rattle.pf_model.specs.IdLaws.{OrdersByIdAreOne}
-use Rattle.pf_model.specs.ParticleLaws.{DistinctIdsIgnoreOrder}
+use Rattle.model_laws.specs.IdLaws.{OrdersByIdAreOne}
+use Rattle.model_laws.specs.ParticleLaws.{DistinctIdsIgnoreOrder}
 use Rattle.pf_model.specs.Particles.{AreBodies, by_id}
 use Rattle.group_lists.specs.Whole.{GroupList}
 use Rattle.force_phase.specs.Phase.{bodies_in}

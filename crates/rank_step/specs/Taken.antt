@@ -3,7 +3,7 @@ use Rattle.std.specs.Prelude.{◌≡◌, Bool, List, [], map, Option, None, if�
 use Rattle.pf_geom.specs.declared.edge.Edge.{Edge}
 use Rattle.group_lists.specs.Whole.{GroupList}
 use Rattle.kern_tree.specs.declared.kernel.Kernel.{Kernel}
-use Rattle.pf_model.specs.Order.{first_some}
+use Rattle.order_laws.specs.Order.{first_some}
 use Rattle.pf_model.specs.Particle.{Particle}
 use Rattle.force_phase.specs.declared.phase.IdRow.{IdRow}
 use Rattle.run_model.specs.declared.step_text.RankLine.{RankLine}

@@ -15,12 +15,13 @@ ghost use Rattle.pf_model.specs.Division.{rank_count};
 use crate::fault::StepFault;
 use exchange::RankState;
 use group_lists::MOST_ENTRIES;
+use model_laws::{
+    all_ranks_have_all, boxes_ignore_order, groups_ignore_order, kept_lists_begin_as_lists,
+    owners_are_ranks,
+};
 use multisection::Domains;
 use pf_io::Gate;
-use pf_model::{
-    Body, Build, Grid, MOST_GROUP, MOST_RANKS, Terms, Theta, all_ranks_have_all,
-    boxes_ignore_order, groups_ignore_order, kept_lists_begin_as_lists, owners_are_ranks,
-};
+use pf_model::{Body, Build, Grid, MOST_GROUP, MOST_RANKS, Terms, Theta};
 use pf_num::OutOfMemory;
 use refresh_phase::builds_begin_as_kept;
 use std::alloc::Global;

@@ -12,11 +12,12 @@ ghost use Rattle.rank_step.specs.Told.{groups_told};
 ghost use Rattle.rank_step.specs.World.{Follows};
 
 use crate::course::Course;
-use pf_io::Gate;
-use pf_model::{
-    Body, Build, Terms, all_ranks_have_all, boxes_ignore_order, groups_ignore_order,
-    kept_lists_begin_as_lists, owners_are_ranks,
+use model_laws::{
+    all_ranks_have_all, boxes_ignore_order, groups_ignore_order, kept_lists_begin_as_lists,
+    owners_are_ranks,
 };
+use pf_io::Gate;
+use pf_model::{Body, Build, Terms};
 use pf_num::OutOfMemory;
 use refresh_phase::{KeptRank, Refreshed, kept_groups_have_their_lists, refresh_all};
 use std::alloc::Global;

@@ -14,7 +14,7 @@ use Rattle.pf_model.specs.Interaction.{list_of}
 use Rattle.pf_model.specs.Particle.{Particle}
 use Rattle.pf_model.specs.Particles.{HaveDistinctIds}
 use Rattle.pf_model.specs.Reuse.{as_in, kept_list}
-use Rattle.pf_model.specs.ReuseLaws.{PresentEntriesAreFound}
+use Rattle.model_laws.specs.ReuseLaws.{PresentEntriesAreFound}
 use Rattle.morton_tree.specs.declared.group.Group.{Group}
 use Rattle.morton_tree.specs.declared.span.Span.{Span}
 use Rattle.morton_tree.specs.Groups.{groups_of, IsGroup}

@@ -15,7 +15,7 @@ use Rattle.std.proofs.lemmas.Map.Keys.{IsDistinct-IsPermutation}
 use Rattle.pf_model.specs.declared.entry.Entry.TheVariants.{One}
 use Rattle.pf_model.specs.Particle.{Particle}
 use Rattle.pf_model.specs.Particles.{HaveDistinctIds, HaveSameIds}
-use Rattle.pf_model.specs.ReuseLaws.{PresentEntriesAreFound}
+use Rattle.model_laws.specs.ReuseLaws.{PresentEntriesAreFound}
 use Rattle.pf_model.specs.Reuse.{as_in}
 
 module _ (id : ℕ) (d : Particle) where

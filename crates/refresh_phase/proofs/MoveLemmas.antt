@@ -12,7 +12,7 @@ use Rattle.pf_model.specs.Domains.{owner, particles_of}
 use Rattle.pf_model.specs.Particle.{Particle}
 use Rattle.pf_model.specs.Particles.{HaveDistinctIds, HaveSameIds}
 use Rattle.pf_model.specs.Reuse.{as_in}
-use Rattle.pf_model.specs.ReuseLaws.{PresentEntriesAreFound}
+use Rattle.model_laws.specs.ReuseLaws.{PresentEntriesAreFound}
 use Rattle.let_inbox.specs.Sources.{others}
 use Rattle.morton_tree.specs.Tree.{Octree}
 use Rattle.group_lists.specs.Listing.{Listing}

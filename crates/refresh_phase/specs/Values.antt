@@ -1,7 +1,7 @@
 -- What the proofs of present values know.
-use Rattle.pf_model.specs.ListLaws.{ListsIgnoreOrder}
-use Rattle.pf_model.specs.ParticleLaws.{SomeHaveDistinctIds}
-use Rattle.pf_model.specs.ReuseLaws.{PresentEntriesAreFound}
+use Rattle.model_laws.specs.ListLaws.{ListsIgnoreOrder}
+use Rattle.model_laws.specs.ParticleLaws.{SomeHaveDistinctIds}
+use Rattle.model_laws.specs.ReuseLaws.{PresentEntriesAreFound}
 use Rattle.list_reuse.specs.KeepingLaws.{RefreshedValuesArePresent}
 
 pub record ValueLaws : Type 0 where

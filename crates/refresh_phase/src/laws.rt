@@ -2,7 +2,7 @@ ghost use Rattle.refresh_phase.specs.Laws.{BuildsBeginAsKept, KeptGroupsHaveThei
 ghost use Rattle.refresh_phase.specs.Values.{ValueLaws};
 
 use list_reuse::{lists_of_a_build_are_kept, refreshed_values_are_present};
-use pf_model::{lists_ignore_order, present_entries_are_found, some_have_distinct_ids};
+use model_laws::{lists_ignore_order, present_entries_are_found, some_have_distinct_ids};
 
 /// The ranks of a build, with the lists of their groups, are kept from then on.
 pub fn builds_begin_as_kept()

@@ -10,9 +10,9 @@ use Rattle.std.proofs.lemmas.List.Sums.{sum_by-cons}
 use Rattle.pf_geom.specs.declared.edge.Edge.TheVariants.{Open}
 use Rattle.pf_geom.specs.Position.{Position, IsPosition}
 use Rattle.pf_model.specs.declared.entry.Entry.TheVariants.{One}
-use Rattle.pf_model.specs.Order.{first_some}
+use Rattle.order_laws.specs.Order.{first_some}
 use Rattle.pf_model.specs.Particle.{Particle, IsParticle}
-use Rattle.pf_model.specs.ParticleLaws.{ParticlesOfOneIdAreOne}
+use Rattle.model_laws.specs.ParticleLaws.{ParticlesOfOneIdAreOne}
 use Rattle.pf_model.specs.Interaction.{entry_source}
 use Rattle.pf_model.specs.Sums.{int_sum_by, moment_of}
 use Rattle.pf_num.specs.Exact.{is_i64}

@@ -5,10 +5,10 @@ use Rattle.pf_geom.specs.Position.{Position}
 use Rattle.pf_geom.specs.Octant.{Octant, cell_at}
 use Rattle.pf_geom.specs.CellLaws.{PositionsHaveCells}
 use Rattle.pf_model.specs.Particle.{Particle}
-use Rattle.pf_model.specs.Order.{placed, in_order_once}
+use Rattle.order_laws.specs.Order.{placed, in_order_once}
 use Rattle.pf_model.specs.Interaction.{is_cell}
 use Rattle.pf_model.specs.Group.{particles_in, group_level, group_cell, has_lower_corner, group_cells}
-use Rattle.pf_model.specs.GroupLaws.{GroupLevelsAreLeast}
+use Rattle.model_laws.specs.GroupLaws.{GroupLevelsAreLeast}
 use Rattle.run_laws.specs.ThinLaws.{cube, FewParticlesAreOneGroup}
 
 -- every position lies in the cube

@@ -12,7 +12,7 @@ use Rattle.pf_model.specs.declared.entry.Entry.TheVariants.{One}
 use Rattle.pf_model.specs.Particle.{Particle}
 use Rattle.pf_model.specs.Particles.{by_id}
 use Rattle.pf_model.specs.Criterion.{Criterion, IsCriterion}
-use Rattle.pf_model.specs.Order.{least_below, placed, in_order_once}
+use Rattle.order_laws.specs.Order.{least_below, placed, in_order_once}
 use Rattle.pf_model.specs.Interaction.{passes, level_of, entry_at, entry_of, comes_before, list_of}
 use Rattle.run_laws.specs.ThinLaws.{ListsWithoutCellsAreParticles}
 

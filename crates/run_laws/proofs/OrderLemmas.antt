@@ -5,7 +5,7 @@ use Rattle.std.proofs.lemmas.Bool.{cond_both, lt-ltb}
 use Rattle.std.proofs.lemmas.Bool.Decides.{nat_tests}
 use Rattle.pf_model.specs.Particle.{Particle}
 use Rattle.pf_model.specs.Particles.{by_id}
-use Rattle.pf_model.specs.Order.{placed}
+use Rattle.order_laws.specs.Order.{placed}
 use Rattle.run_laws.specs.ThinBuild.{OrdersByIdStay}
 
 -- each has a higher id

@@ -10,8 +10,8 @@ use Rattle.pf_geom.specs.declared.edge.Edge.TheVariants.{Open}
 use Rattle.pf_model.specs.declared.entry.Entry.TheVariants.{One}
 use Rattle.pf_model.specs.Criterion.{Criterion, IsCriterion}
 use Rattle.pf_model.specs.Division.{IsDivision, rank_count}
-use Rattle.pf_model.specs.IdLaws.{OrdersByIdHaveDistinctIds, OrdersByIdKeepParticles}
-use Rattle.pf_model.specs.Order.{placed, first_some}
+use Rattle.model_laws.specs.IdLaws.{OrdersByIdHaveDistinctIds, OrdersByIdKeepParticles}
+use Rattle.order_laws.specs.Order.{placed, first_some}
 use Rattle.pf_model.specs.Particle.{Particle, IsParticle}
 use Rattle.pf_model.specs.Particles.{by_id}
 use Rattle.run_model.specs.Force.{first_given, force_row, force_fault}

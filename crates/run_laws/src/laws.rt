@@ -7,11 +7,11 @@ ghost use Rattle.run_laws.specs.ThinForces.{PullsAddUp};
 ghost use Rattle.run_laws.specs.ThinText.{ThinTextsAreThinDumps};
 ghost use Rattle.run_laws.specs.ThinLaws.{ListsWithoutCellsAreParticles, FewParticlesAreOneGroup};
 
-use pf_geom::positions_have_cells;
-use pf_model::{
+use model_laws::{
     group_levels_are_least, orders_by_id_have_distinct_ids, orders_by_id_keep_particles,
     particles_of_one_id_are_one,
 };
+use pf_geom::positions_have_cells;
 use run_model::lone_ranks_build_so;
 
 /// Where theta is 0, the list of any box is all particles, by id.

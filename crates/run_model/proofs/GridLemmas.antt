@@ -8,7 +8,7 @@ use Rattle.pf_geom.specs.Bounds.{Bounds}
 use Rattle.pf_model.specs.Particle.{Particle, IsParticle}
 use Rattle.pf_model.specs.Particles.{by_id}
 use Rattle.pf_model.specs.Division.{Division, IsDivision}
-use Rattle.pf_model.specs.Order.{first_some, least_below}
+use Rattle.order_laws.specs.Order.{first_some, least_below}
 use Rattle.pf_model.specs.Reuse.{kept_list}
 use Rattle.run_model.specs.Setup.{Setup}
 use Rattle.run_model.specs.Force.{first_given, force_row, force_fault}

@@ -1,7 +1,7 @@
 -- The least number that passes a test.
 use Rattle.std.proofs.Common.{◌≡◌, ℕ, zero, suc, ◌<◌, Bool, true, false, cond, Option, Some, None, inl, inr, ◌∙◌, ap, arith}
 use Rattle.std.proofs.lemmas.Bool.{cond_both, cases_order}
-use Rattle.pf_model.specs.Order.{first_some, least_below}
+use Rattle.order_laws.specs.Order.{first_some, least_below}
 
 -- the least number below n that passes, or none does
 abbrev pub IsLeast : (ℕ → Bool) → ℕ → Option ℕ → Type 0

@@ -8,12 +8,12 @@ use Rattle.pf_geom.specs.declared.axis.Axis.TheVariants.{X, Y, Z}
 use Rattle.pf_geom.specs.declared.edge.Edge.{Edge}
 use Rattle.pf_geom.specs.declared.edge.Edge.TheVariants.{Open, Periodic}
 use Rattle.pf_model.specs.Particle.{Particle, IsParticle, IsVelocity}
-use Rattle.pf_model.specs.Order.{first_some}
+use Rattle.order_laws.specs.Order.{first_some}
 use Rattle.run_model.specs.Setup.{Setup}
 use Rattle.run_model.specs.Leapfrog.{Triple, first_axis, is_fast, kicked_velocity, fast_axis, after_kick, is_escape, drift_target, escape_axis, coordinate_at, after_drift}
 use Rattle.run_model.specs.Force.{first_given}
 use Rattle.pf_model.specs.Particles.{by_id}
-use Rattle.pf_model.specs.Order.{placed, in_order_once}
+use Rattle.order_laws.specs.Order.{placed, in_order_once}
 use Rattle.run_model.specs.Force.{acceleration}
 use Rattle.std.specs.Option.{option_map}
 use Rattle.std.proofs.lemmas.Bool.{cond_both}

@@ -6,13 +6,13 @@ use Rattle.pf_model.specs.Particle.{Particle}
 use Rattle.pf_model.specs.Particles.{HaveDistinctIds}
 use Rattle.pf_model.specs.Division.{IsDivision, rank_count}
 use Rattle.pf_model.specs.Domains.{owner, particles_of}
-use Rattle.pf_model.specs.DomainLaws.{LoneRanksHaveAll}
+use Rattle.model_laws.specs.DomainLaws.{LoneRanksHaveAll}
 use Rattle.pf_model.specs.Reuse.{kept_list}
-use Rattle.pf_model.specs.ReuseLaws.{KeptListsBeginAsLists}
+use Rattle.model_laws.specs.ReuseLaws.{KeptListsBeginAsLists}
 use Rattle.pf_model.specs.Group.{particles_in, group_of, box_of, group_cells}
 use Rattle.pf_model.specs.Groups.{RankGroup, groups_of_rank, all_groups, group_list}
 use Rattle.pf_model.specs.EssentialTree.{essential_tree}
-use Rattle.pf_model.specs.ParticleLaws.{ParticlesOfOneIdAreOne}
+use Rattle.model_laws.specs.ParticleLaws.{ParticlesOfOneIdAreOne}
 use Rattle.pf_model.specs.declared.entry.Entry.{Entry}
 use Rattle.std.proofs.Common.{length-append}
 use Rattle.std.proofs.lemmas.Bool.{cond_both, eqb-true}

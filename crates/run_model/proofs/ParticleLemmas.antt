@@ -4,12 +4,12 @@ use Rattle.std.specs.Prelude.{option_and_then, IsPermutation}
 use Rattle.std.proofs.lemmas.Bool.{cond_both}
 use Rattle.pf_model.specs.Particle.{Particle}
 use Rattle.pf_model.specs.Particles.{HaveDistinctIds, by_id}
-use Rattle.pf_model.specs.IdLaws.{OrdersByIdAreOne, OrdersByIdHaveDistinctIds}
+use Rattle.model_laws.specs.IdLaws.{OrdersByIdAreOne, OrdersByIdHaveDistinctIds}
 use Rattle.run_model.specs.Setup.{Setup}
 use Rattle.run_model.specs.StepText.{step_text}
 use Rattle.run_model.specs.Text.{told, rank_counts, body_row}
 use Rattle.run_model.specs.Force.{first_given, force_row}
-use Rattle.pf_model.specs.Order.{first_some}
+use Rattle.order_laws.specs.Order.{first_some}
 use Rattle.std.specs.Option.{option_map_or}
 use Rattle.run_model.specs.Run.{WithForces, State, Stop, list_for, lists_fault, forces_fault, with_forces, moved, moved_body, kicked_again, is_build, built_at, fault_at_start, state_at_start, fault_after, state_after, unless_stopped, state, first_fault}
 use Rattle.run_model.specs.RunLaws.{ids_of, HasAll, IsSameRun, with_particles}

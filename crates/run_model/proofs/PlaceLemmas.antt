@@ -12,10 +12,10 @@ use Rattle.pf_model.specs.Particle.{Particle}
 use Rattle.pf_model.specs.Criterion.{Criterion}
 use Rattle.pf_model.specs.Division.{Division, IsDivision, rank_count}
 use Rattle.pf_model.specs.Domains.{owner, particles_of}
-use Rattle.pf_model.specs.DomainLaws.{OwnersAreRanks}
+use Rattle.model_laws.specs.DomainLaws.{OwnersAreRanks}
 use Rattle.pf_model.specs.Group.{particles_in, group_cell, group_cells, group_of, box_of, has_lower_corner}
 use Rattle.pf_model.specs.Groups.{groups_of_rank, all_groups, group_with, group_list}
-use Rattle.pf_model.specs.GroupLaws.{AreGroupCells, GroupCellsAreOrdered, GroupsOfOneAreOnePlace}
+use Rattle.model_laws.specs.GroupLaws.{AreGroupCells, GroupCellsAreOrdered, GroupsOfOneAreOnePlace}
 use Rattle.pf_model.specs.Interaction.{list_of}
 use Rattle.run_model.proofs.OnceEach.{In, Once, in_from_contains, contains_from_in, same_sum, in_map, map_in, once_map, once_from_pairs, in_filter, filter_in, in_flat_range, flat_range_in, once_flat_range, sum_map, sum_flat}
 

@@ -11,7 +11,7 @@ use Rattle.pf_model.specs.declared.entry.Entry.{Entry}
 use Rattle.pf_model.specs.declared.entry.Entry.TheVariants.{Cell, One}
 use Rattle.pf_model.specs.Particle.{Particle}
 use Rattle.pf_model.specs.Totals.{Source}
-use Rattle.pf_model.specs.Order.{first_some}
+use Rattle.order_laws.specs.Order.{first_some}
 use Rattle.pf_model.specs.Sums.{int_sum_by}
 use Rattle.pf_model.specs.Interaction.{entry_source}
 use Rattle.kern_tree.specs.declared.kernel.Combine.{Combine}

@@ -3,7 +3,7 @@ use Rattle.std.specs.Prelude.{ℤ, ℕ, zero, suc, ◌%◌, ◌^◌, Bool, List,
 use Rattle.pf_model.specs.declared.entry.Entry.{Entry}
 use Rattle.pf_model.specs.Particle.{Particle}
 use Rattle.pf_model.specs.Particles.{by_id}
-use Rattle.pf_model.specs.Order.{first_some, least_below}
+use Rattle.order_laws.specs.Order.{first_some, least_below}
 use Rattle.pf_model.specs.Groups.{all_groups, group_with, group_list}
 use Rattle.pf_model.specs.Reuse.{kept_group_list}
 use Rattle.run_model.specs.declared.fault.Fault.{Fault}

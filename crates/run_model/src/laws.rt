@@ -3,7 +3,7 @@
 
 ghost use Rattle.run_model.specs.RunLaws.{StatesStandBeforeTheEnd, StatesKeepTheParticles, StatesKeepTheLimits, RunsIgnoreTheOrderRead, EachIsInOneEntryOfEachList, GridsChangeOwnersAlone, LoneRanksBuildSo};
 
-use pf_model::{
+use model_laws::{
     each_is_in_one_entry, group_cells_are_ordered, groups_of_one_are_one_place,
     kept_lists_begin_as_lists, lone_ranks_have_all, orders_by_id_are_one,
     orders_by_id_have_distinct_ids, owners_are_ranks, particles_of_one_id_are_one,

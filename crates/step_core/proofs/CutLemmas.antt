@@ -10,7 +10,7 @@ use Rattle.pf_geom.specs.declared.axis.Axis.{Axis}
 use Rattle.pf_model.specs.Particle.{Particle}
 use Rattle.step_core.specs.Plain.{along_axis, in_slab_along}
 use Rattle.pf_model.specs.Domains.{Multisection, IsMultisection, slab_of, piece_at, owner_by}
-use Rattle.pf_model.specs.DomainLaws.{OwnersByCutsAreRanks}
+use Rattle.model_laws.specs.DomainLaws.{OwnersByCutsAreRanks}
 
 -- the slabs of a position: along x, along y in that slab, and along z in that column
 pub record AreSlabs (s : Multisection) (p : Position) (ix iy iz ny nz : ℕ) : Type 0 where

@@ -11,7 +11,7 @@ use Rattle.std.proofs.lemmas.Map.Views.{Contains-from_any}
 use Rattle.std.proofs.lemmas.Option.{slice_get-map, slice_get-get_or, same_Some}
 use Rattle.pf_model.specs.declared.entry.Entry.{Entry}
 use Rattle.pf_model.specs.Division.{IsDivision}
-use Rattle.pf_model.specs.DomainLaws.{AllRanksHaveAll}
+use Rattle.model_laws.specs.DomainLaws.{AllRanksHaveAll}
 use Rattle.pf_model.specs.Interaction.{list_of}
 use Rattle.pf_model.specs.Group.{box_of, group_cells, particles_in}
 use Rattle.pf_model.specs.Domains.{particles_of}

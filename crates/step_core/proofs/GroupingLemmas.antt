@@ -9,7 +9,7 @@ use Rattle.pf_geom.specs.Octant.{Octant}
 use Rattle.pf_model.specs.Particle.{Particle}
 use Rattle.pf_model.specs.Division.{Division, IsDivision, rank_count}
 use Rattle.pf_model.specs.Domains.{cuts_for, owner, particles_of}
-use Rattle.pf_model.specs.Order.{placed, in_order_once}
+use Rattle.order_laws.specs.Order.{placed, in_order_once}
 use Rattle.pf_model.specs.Group.{particles_in, group_cell, group_cells, has_lower_corner}
 use Rattle.pf_model.specs.Groups.{RankGroup, groups_of_rank, all_groups}
 use Rattle.step_core.specs.Core.{Settings, IsSettings, numbered_groups}

@@ -1,8 +1,9 @@
 ghost use Rattle.std.specs.Prelude.{◌≡◌, ◌<◌, ◌+◌, ◌*◌, ◌-◌, ◌≤◌, length};
 ghost use Rattle.pf_model.specs.Domains.{owner_by, slab_of, piece_at, IsMultisection};
 
+use model_laws::owners_by_cuts_are_ranks;
 use pf_geom::Point;
-use pf_model::{Grid, owners_by_cuts_are_ranks};
+use pf_model::Grid;
 use std::marker::Model;
 
 // Where the cube is cut: along x, then along y in each slab of x, then along z in each column of each slab.

@@ -7,8 +7,9 @@ ghost use Rattle.step_core.specs.Plain.{along_axis, in_slab_along, plain_column_
 
 use crate::cuts::{Cuts, slab_of};
 use crate::ordering::{coordinate, in_order};
+use model_laws::cuts_ascend;
 use pf_geom::Axis;
-use pf_model::{Body, Grid, MOST_PARTICLES, MOST_RANKS, cuts_ascend};
+use pf_model::{Body, Grid, MOST_PARTICLES, MOST_RANKS};
 use pf_num::OutOfMemory;
 use std::alloc::Global;
 

@@ -7,8 +7,9 @@ ghost use Rattle.step_core.specs.Plain.{plain_owned, site_in, sites_by};
 use crate::cuts::Cuts;
 use crate::ordering::place_cell;
 use crate::site::Site;
+use model_laws::group_levels_are_least;
 use pf_geom::{Box3, Cell, DEEPEST, Point, cell_of};
-use pf_model::{Body, box_of, group_levels_are_least};
+use pf_model::{Body, box_of};
 use pf_num::OutOfMemory;
 use std::alloc::Global;
 

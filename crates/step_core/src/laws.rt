@@ -4,7 +4,7 @@
 ghost use Rattle.step_core.specs.Laws.{HeldGroupsHaveTheirLists, EndsFinishEachGroupOnce, RunsAreShort};
 ghost use Rattle.step_core.specs.Laws.{EndsHaveWholeLists, EndsAreAlike, RunsGoOn};
 
-use pf_model::all_ranks_have_all;
+use model_laws::all_ranks_have_all;
 
 /// A legal list of events goes on by events that are legal one after another from the state that it leaves.
 pub fn runs_go_on()

@@ -9,7 +9,7 @@ use Rattle.pf_model.specs.Particle.{Particle}
 use Rattle.pf_model.specs.Criterion.{Criterion}
 use Rattle.pf_model.specs.Sums.{moment_of}
 use Rattle.pf_model.specs.Interaction.{entry_place, level_of, leads_to_cell, members_of, entry_at, entry_of}
-use Rattle.pf_model.specs.ListLaws.{LevelsAreLeast}
+use Rattle.model_laws.specs.ListLaws.{LevelsAreLeast}
 use Rattle.morton_tree.specs.Spans.{at_span}
 use Rattle.tree_lists.specs.declared.piece.Piece.{Piece}
 use Rattle.tree_lists.specs.Pieces.{IsPieceOf}

@@ -22,7 +22,7 @@ use Rattle.pf_model.specs.Particle.{Particle}
 use Rattle.pf_model.specs.Particles.{HaveDistinctIds}
 use Rattle.pf_model.specs.Criterion.{Criterion}
 use Rattle.pf_model.specs.Interaction.{entry_place, members_of, entry_of, comes_before, list_of}
-use Rattle.pf_model.specs.ListLaws.{ListsHoldTheirEntries, HasLevel, EntriesHaveLevels, EntriesStandByPlace, EntriesAtOnePlaceAreOne}
+use Rattle.model_laws.specs.ListLaws.{ListsHoldTheirEntries, HasLevel, EntriesHaveLevels, EntriesStandByPlace, EntriesAtOnePlaceAreOne}
 use Rattle.morton_tree.specs.declared.span.Span.{Span}
 use Rattle.morton_tree.specs.Spans.{at_span}
 use Rattle.cell_runs.specs.declared.cell_run.CellRun.{CellRun}

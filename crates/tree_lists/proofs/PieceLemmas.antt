@@ -14,7 +14,7 @@ use Rattle.pf_model.specs.Particles.{HaveDistinctIds}
 use Rattle.pf_model.specs.Criterion.{Criterion}
 use Rattle.pf_model.specs.Sums.{moment_of}
 use Rattle.pf_model.specs.Interaction.{entry_place, level_of, is_cell, leads_to_cell, leads_to, members_of, entry_at, entry_of}
-use Rattle.pf_model.specs.ListLaws.{LevelsAreLeast, FirstCellsHoldTheirMembers}
+use Rattle.model_laws.specs.ListLaws.{LevelsAreLeast, FirstCellsHoldTheirMembers}
 use Rattle.morton_tree.specs.declared.span.Span.{Span}
 use Rattle.morton_tree.specs.Spans.{at_span}
 use Rattle.cell_runs.specs.declared.cell_run.CellRun.{CellRun}

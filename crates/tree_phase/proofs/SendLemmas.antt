@@ -10,7 +10,7 @@ use Rattle.pf_model.specs.Domains.{owner, particles_of, domain_box}
 use Rattle.pf_model.specs.EssentialTree.{essential_tree}
 use Rattle.pf_model.specs.Particle.{Particle}
 use Rattle.pf_model.specs.Particles.{AreBodies}
-use Rattle.pf_model.specs.ParticleLaws.{SomeHaveDistinctIds}
+use Rattle.model_laws.specs.ParticleLaws.{SomeHaveDistinctIds}
 use Rattle.let_inbox.specs.Sources.{others}
 use Rattle.essential_tree.specs.declared.sent.Sent.{Sent}
 use Rattle.essential_tree.specs.declared.tree_parcel.TreeParcel.{TreeParcel}

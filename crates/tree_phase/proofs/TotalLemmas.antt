@@ -12,7 +12,7 @@ use Rattle.pf_model.specs.Division.{Division}
 use Rattle.pf_model.specs.Domains.{owner, particles_of, domain_box}
 use Rattle.pf_model.specs.EssentialTree.{essential_tree, tree_for, particles_of_ranks}
 use Rattle.pf_model.specs.Interaction.{list_of}
-use Rattle.pf_model.specs.ListLaws.{ListsAreShort}
+use Rattle.model_laws.specs.ListLaws.{ListsAreShort}
 use Rattle.pf_model.specs.Particle.{Particle}
 use Rattle.morton_tree.specs.declared.group.Group.{Group}
 use Rattle.group_lists.specs.Gathering.{Gathering, with_source, partial_list, gathered_count}

@@ -3,9 +3,10 @@ ghost use Rattle.pf_model.specs.Division.{rank_count};
 
 use super::bodies::{body, two_close_and_one_far};
 use group_lists::{Gather, HasLists, Lists, MOST_ENTRIES};
+use model_laws::lone_ranks_have_all;
 use morton_tree::Tree;
 use pf_geom::Edge;
-use pf_model::{Body, Entry, Steps, Terms, Theta, lone_ranks_have_all};
+use pf_model::{Body, Entry, Steps, Terms, Theta};
 use pf_num::OutOfMemory;
 use std::alloc::Global;
 use std::marker::Brand;

@@ -4,11 +4,10 @@ ghost use Rattle.pf_model.specs.Division.{rank_count};
 
 use super::bodies::bodies_at;
 use group_lists::{Gather, MOST_ENTRIES};
+use model_laws::lone_ranks_have_all;
 use morton_tree::Tree;
 use pf_geom::{Edge, Point, point_at};
-use pf_model::{
-    Body, Build, Grid, MOST_PARTICLES, Steps, Terms, Theta, lone_ranks_have_all, slow_list,
-};
+use pf_model::{Body, Build, Grid, MOST_PARTICLES, Steps, Terms, Theta, slow_list};
 use pf_num::OutOfMemory;
 use std::alloc::Global;
 use std::marker::Brand;

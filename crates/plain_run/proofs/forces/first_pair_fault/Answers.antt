@@ -1,6 +1,6 @@
 use Rattle.std.proofs.Common.{sym, ◌∙◌, ap, drop, ◌+◌, arith}
 use Rattle.run_model.specs.Force.{first_given, pair_fault, pairs_of}
-use Rattle.pf_model.specs.Order.{first_some}
+use Rattle.order_laws.specs.Order.{first_some}
 use Rattle.plain_run.proofs.PairLemmas.{fault_next, no_pairs}
 use Rattle.plain_run.proofs.forces.first_pair_fault.Goals as goal
 

@@ -1,7 +1,7 @@
 use Rattle.std.proofs.Common.{◌≡◌, ℕ, drop, map, ◌∙◌, ap, arith}
 use Rattle.pf_model.specs.Particle.{Particle}
 use Rattle.pf_model.specs.Group.{group_cell, group_cells, has_lower_corner}
-use Rattle.pf_model.specs.Order.{in_order_once}
+use Rattle.order_laws.specs.Order.{in_order_once}
 use Rattle.plain_run.proofs.grouping.group_cells.Goals as goal
 
 pub returns : goal.returns

@@ -1,7 +1,7 @@
 use Rattle.std.proofs.Common.{◌≡◌, ◌≤◌, length, drop, map}
 use Rattle.pf_model.specs.Particle.{Particle}
 use Rattle.pf_model.specs.Group.{group_cell, has_lower_corner}
-use Rattle.pf_model.specs.Order.{in_order_once}
+use Rattle.order_laws.specs.Order.{in_order_once}
 use Rattle.step_core.proofs.grouping.group_cells.Given as goal
 
 abbrev pub invariant-loop-left : goal.invariant-loop-left

@@ -1,0 +1,5 @@
+use Rattle.model_laws.proofs.DomainOrderLemmas.{cuts_ignore_order}
+use Rattle.model_laws.proofs.domain_laws.cuts_ignore_order.Goals as goal
+
+pub returns : goal.returns
+returns c = cuts_ignore_order

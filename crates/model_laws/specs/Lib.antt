@@ -1,0 +1,10 @@
+pub mod IdLaws
+pub mod OpeningLaws
+pub mod ListLaws
+pub mod MomentLaws
+pub mod DomainLaws
+pub mod GroupLaws
+pub mod ReuseLaws
+pub mod MergingLaws
+pub mod ParticleLaws
+pub mod SufficiencyLaws

@@ -1,5 +1,0 @@
-use Rattle.pf_model.proofs.RankLemmas.{owners_by_cuts_are_ranks}
-use Rattle.pf_model.proofs.domain_laws.owners_by_cuts_are_ranks.Goals as goal
-
-pub returns : goal.returns
-returns c = owners_by_cuts_are_ranks

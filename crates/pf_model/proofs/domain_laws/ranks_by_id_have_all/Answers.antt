@@ -1,5 +1,0 @@
-use Rattle.pf_model.proofs.RankLemmas.{ranks_by_id_have_all}
-use Rattle.pf_model.proofs.domain_laws.ranks_by_id_have_all.Goals as goal
-
-pub returns : goal.returns
-returns c = ranks_by_id_have_all c.orders_by_id_have_all.ensures

@@ -1,5 +1,0 @@
-use Rattle.pf_model.proofs.BoxLemmas.{boxes_ignore_order}
-use Rattle.pf_model.proofs.group_laws.boxes_ignore_order.Goals as goal
-
-pub returns : goal.returns
-returns c = boxes_ignore_order

@@ -1,5 +1,0 @@
-use Rattle.pf_model.proofs.GroupLemmas.{group_cells_are_ordered}
-use Rattle.pf_model.proofs.group_laws.group_cells_are_ordered.Goals as goal
-
-pub returns : goal.returns
-returns c = group_cells_are_ordered c.cells_of_a_position_nest.ensures c.positions_share_lower_cells.ensures

@@ -1,5 +1,0 @@
-use Rattle.pf_model.proofs.IdLemmas.{ascending_is_by_id}
-use Rattle.pf_model.proofs.id_laws.ascending_is_by_id.Goals as goal
-
-pub returns : goal.returns
-returns c = ascending_is_by_id

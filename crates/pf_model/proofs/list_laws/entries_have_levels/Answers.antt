@@ -1,5 +1,0 @@
-use Rattle.pf_model.proofs.PlaceLemmas.{entries_have_levels}
-use Rattle.pf_model.proofs.list_laws.entries_have_levels.Goals as goal
-
-pub returns : goal.returns
-returns c = entries_have_levels

@@ -1,5 +1,0 @@
-use Rattle.pf_model.proofs.ListCellLemmas.{lists_hold_near_particles}
-use Rattle.pf_model.proofs.list_laws.lists_hold_near_particles.Goals as goal
-
-pub returns : goal.returns
-returns c = lists_hold_near_particles

@@ -1,5 +1,0 @@
-use Rattle.pf_model.proofs.ListCellLemmas.{particles_in_the_box_are_near}
-use Rattle.pf_model.proofs.list_laws.particles_in_the_box_are_near.Goals as goal
-
-pub returns : goal.returns
-returns c = particles_in_the_box_are_near c.passing_cells_lie_apart.ensures c.positions_have_cells.ensures

@@ -1,5 +1,0 @@
-use Rattle.pf_model.proofs.ListMergeLemmas.{lists_merge}
-use Rattle.pf_model.proofs.merging_laws.lists_merge.Goals as goal
-
-pub returns : goal.returns
-returns c = lists_merge c.lists_hold_first_cells.ensures c.lists_hold_near_particles.ensures c.positions_have_cells.ensures

@@ -1,5 +1,0 @@
-use Rattle.pf_model.proofs.LimitLemmas.{moments_keep_their_limits}
-use Rattle.pf_model.proofs.moment_laws.moments_keep_their_limits.Goals as goal
-
-pub returns : goal.returns
-returns c = moments_keep_their_limits

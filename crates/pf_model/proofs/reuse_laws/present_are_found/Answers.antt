@@ -1,5 +1,0 @@
-use Rattle.pf_model.proofs.PresentLemmas.{present_are_found}
-use Rattle.pf_model.proofs.reuse_laws.present_are_found.Goals as goal
-
-pub returns : goal.returns
-returns c = present_are_found
