@@ -4,6 +4,7 @@ mod CutLemmas
 mod DifferenceLemmas
 mod DomainLemmas
 mod DomainOrderLemmas
+mod FewLemmas
 mod GroupLemmas
 mod GroupOrderLemmas
 mod IdLemmas

@@ -45,6 +45,10 @@ GroupCellsAreOrdered =
     (limit : ℕ) (own : List Particle) (cells : List Octant) → AreGroupCells limit own cells ↔
     (cells ≡ group_cells limit own)
 
+-- there are no more of them than particles
+abbrev pub GroupsAreFew : Type 0
+GroupsAreFew = (limit : ℕ) (own : List Particle) → length (group_cells limit own) ≤ length own
+
 -- of these cells exactly one holds a particle
 abbrev pub EachIsInOneGroup : Type 0
 EachIsInOneGroup =

@@ -3,7 +3,7 @@
 
 ghost use Rattle.model_laws.specs.GroupLaws.{GroupLevelsAreLeast, PositionsShareTheirGroup, MembersShareTheirGroup};
 ghost use Rattle.model_laws.specs.GroupLaws.{GroupCellsAreOrdered, EachIsInOneGroup, GroupsIgnoreOrder};
-ghost use Rattle.model_laws.specs.GroupLaws.{GroupsOfOneAreOnePlace, BoxesAreLeast, BoxesIgnoreOrder};
+ghost use Rattle.model_laws.specs.GroupLaws.{GroupsOfOneAreOnePlace, GroupsAreFew, BoxesAreLeast, BoxesIgnoreOrder};
 
 use pf_geom::{cells_of_a_position_nest, keys_are_distinct, positions_share_lower_cells};
 
@@ -33,6 +33,11 @@ pub fn group_cells_are_ordered()
     cells_of_a_position_nest();
     positions_share_lower_cells();
 }
+
+/// There are no more groups than particles.
+pub fn groups_are_few()
+    ensures { GroupsAreFew }
+{}
 
 /// Each particle lies in the cell of exactly one group.
 pub fn each_is_in_one_group()

@@ -21,7 +21,7 @@ pub use domain_laws::{
 };
 pub use group_laws::{
     boxes_are_least, boxes_ignore_order, each_is_in_one_group, group_cells_are_ordered,
-    group_levels_are_least, groups_ignore_order, groups_of_one_are_one_place,
+    group_levels_are_least, groups_are_few, groups_ignore_order, groups_of_one_are_one_place,
     members_share_their_group, positions_share_their_group,
 };
 pub use id_laws::{

@@ -4,6 +4,7 @@ use Rattle.std.specs.List.{filter, Contains, All}
 use Rattle.std.proofs.lemmas.Bool.{cases_eq, eq-eqb, ne_eqb, cond_both, cases_order, false≢true}
 use Rattle.std.proofs.lemmas.List.Elements.{Contains-get_or}
 use Rattle.std.specs.Prelude.{nat_eq}
+use Rattle.order_laws.specs.OrderLaws.{TestsKeepWhatPasses}
 use Rattle.order_laws.proofs.OrderLemmas.{In, BeforeAll, IsAscending, before_each, IsStrict}
 
 pub in_at : {X : Type 0} (xs : List X) (k : ℕ) (x : X) → k < length xs → get_or xs k x ≡ x → In x xs
@@ -82,6 +83,9 @@ kept_from_filter test x ys h =
 
 pub kept_in_filter : {X : Type 0} (test : X → Bool) (x : X) (ys : List X) → Contains ys x → test x ≡ true → Contains (filter test ys) x
 kept_in_filter test x ys h e = contains_from_in (filter test ys) x (keeps test x ys e (in_from_contains ys x h))
+
+pub tests_keep_what_passes : {X : Type 0} → TestsKeepWhatPasses X
+tests_keep_what_passes test xs x = (kept_from_filter test x xs, λ both. kept_in_filter test x xs both.0 both.1)
 
 one_of_one : {X : Type 0} (z x y : X) → In x (z ∷ []) → In y (z ∷ []) → x ≡ y
 one_of_one z x y (inl e) (inl f) = sym e ∙ f

@@ -2,6 +2,7 @@
 // proof needs a law calls its function.
 
 ghost use Rattle.order_laws.specs.OrderLaws.{ListsInOrderAreOne, RisingListsAreOne, DistinctKeysRise, SortsByKeyAreOne};
+ghost use Rattle.order_laws.specs.OrderLaws.{MapsKeepOrders};
 
 /// Elements in whatever order have one list in which each comes before all later ones.
 pub fn lists_in_order_are_one<X>()
@@ -21,4 +22,9 @@ pub fn distinct_keys_rise<X>()
 /// A sort by a key that differs leaves one list.
 pub fn sorts_by_key_are_one<X>()
     ensures { SortsByKeyAreOne X }
+{}
+
+/// A map that keeps an order makes of the list in order the list of what it makes, in order.
+pub fn maps_keep_orders<X, Y>()
+    ensures { MapsKeepOrders X Y }
 {}
