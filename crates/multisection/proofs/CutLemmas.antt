@@ -16,7 +16,7 @@ use Rattle.model_laws.specs.ParticleLaws.{DistinctIdsIgnoreOrder, SomeHaveDistin
 use Rattle.pf_model.specs.Division.{Division}
 use Rattle.pf_model.specs.Domains.{slab_of, cuts_of, y_cuts, z_cuts, cuts_for}
 use Rattle.model_laws.specs.DomainLaws.{OrdersAlongAreOne, CutsAlongIgnoreOrder}
-use Rattle.order_laws.specs.OrderLaws.{TestsKeepPermutations}
+use Rattle.order_laws.specs.OrderLaws.{MapsKeepOrders, TestsKeepPermutations}
 use Rattle.multisection.specs.Sites.{site_of, along, IsInOrder, in_slab_along, column_cuts}
 use Rattle.multisection.proofs.OrderLemmas.{cuts_of-map, ids_kept}
 use Rattle.multisection.proofs.RunLemmas.{slab_at, filter-map}
@@ -123,20 +123,20 @@ column_cuts-same law some tests g js ks distinct same =
     λ i. flat_map (λ iy. column iy i) (range_with_len 0 g.ny)
 
 -- particles and their sites make the same cuts
-pub cuts_of-sites : (axis : Axis) (js : List Particle) (m : ℕ) → cuts_of (along axis) (map site_of js) m ≡ cuts_of (along axis) js m
-cuts_of-sites axis js m = cuts_of-map (along axis) (along axis) site_of (λ j. refl) (λ j. refl) js m
+pub cuts_of-sites : MapsKeepOrders Particle Particle → (axis : Axis) (js : List Particle) (m : ℕ) → cuts_of (along axis) (map site_of js) m ≡ cuts_of (along axis) js m
+cuts_of-sites keep axis js m = cuts_of-map keep (along axis) (along axis) site_of (λ j. refl) (λ j. refl) js m
 
 pub in_slab_along-sites : (axis : Axis) (cuts : List ℕ) (js : List Particle) (k : ℕ) → in_slab_along axis cuts (map site_of js) k ≡ map site_of (in_slab_along axis cuts js k)
 in_slab_along-sites axis cuts js k = filter-map site_of (λ (j : Particle). nat_eq (slab_at axis cuts j) k) (λ (j : Particle). nat_eq (slab_at axis cuts j) k) (λ j. refl) js
 
-pub column_cuts-sites : (g : Division) (js : List Particle) → column_cuts g (map site_of js) ≡ column_cuts g js
-column_cuts-sites g js =
-    let own = cuts_of-sites Y js g.ny in
+pub column_cuts-sites : MapsKeepOrders Particle Particle → (g : Division) (js : List Particle) → column_cuts g (map site_of js) ≡ column_cuts g js
+column_cuts-sites keep g js =
+    let own = cuts_of-sites keep Y js g.ny in
     let column = λ (iy : ℕ).
     let cuts : cuts_of (along Z) (in_column_of g (map site_of js) iy) g.nz ≡ cuts_of (along Z) (in_column_of g js iy) g.nz =
     ap (λ (l : List ℕ). cuts_of (along Z) (in_slab_along Y l (map site_of js) iy) g.nz) own
     ∙ ap (λ (l : List Particle). cuts_of (along Z) l g.nz) (in_slab_along-sites Y (cuts_of (along Y) js g.ny) js iy)
-    ∙ cuts_of-sites Z (in_column_of g js iy) g.nz in
+    ∙ cuts_of-sites keep Z (in_column_of g js iy) g.nz in
     cuts in
     λ i. flat_map (λ iy. column iy i) (range_with_len 0 g.ny)
 
@@ -153,18 +153,18 @@ cuts_from_pieces g js x y z own y_is z_is =
     λ i. record { grid = g; x = own i; y = all_y i; z = all_z i }
 
 -- so a slab of sites makes the cuts of its particles
-rows_alike : (g : Division) (js : List Particle) (x : List ℕ) (k : ℕ) → cuts_of (along Y) (in_slab_along X x (map site_of js) k) g.ny ≡ cuts_of (along Y) (in_slab_along X x js k) g.ny
-rows_alike g js x k = ap (λ (l : List Particle). cuts_of (along Y) l g.ny) (in_slab_along-sites X x js k) ∙ cuts_of-sites Y (in_slab_along X x js k) g.ny
+rows_alike : MapsKeepOrders Particle Particle → (g : Division) (js : List Particle) (x : List ℕ) (k : ℕ) → cuts_of (along Y) (in_slab_along X x (map site_of js) k) g.ny ≡ cuts_of (along Y) (in_slab_along X x js k) g.ny
+rows_alike keep g js x k = ap (λ (l : List Particle). cuts_of (along Y) l g.ny) (in_slab_along-sites X x js k) ∙ cuts_of-sites keep Y (in_slab_along X x js k) g.ny
 
-columns_alike : (g : Division) (js : List Particle) (x : List ℕ) (k : ℕ) → column_cuts g (in_slab_along X x (map site_of js) k) ≡ column_cuts g (in_slab_along X x js k)
-columns_alike g js x k = ap (column_cuts g) (in_slab_along-sites X x js k) ∙ column_cuts-sites g (in_slab_along X x js k)
+columns_alike : MapsKeepOrders Particle Particle → (g : Division) (js : List Particle) (x : List ℕ) (k : ℕ) → column_cuts g (in_slab_along X x (map site_of js) k) ≡ column_cuts g (in_slab_along X x js k)
+columns_alike keep g js x k = ap (column_cuts g) (in_slab_along-sites X x js k) ∙ column_cuts-sites keep g (in_slab_along X x js k)
 
-pub cuts_for-sites : (g : Division) (js : List Particle) → cuts_for g (map site_of js) ≡ cuts_for g js
-cuts_for-sites g js =
+pub cuts_for-sites : MapsKeepOrders Particle Particle → (g : Division) (js : List Particle) → cuts_for g (map site_of js) ≡ cuts_for g js
+cuts_for-sites keep g js =
     let x : List ℕ = cuts_of (along X) (map site_of js) g.nx in
     let slabs : List ℕ = range_with_len 0 g.nx in
     sym (cuts_from_pieces g (map site_of js) x (flat_map (λ k. cuts_of (along Y) (in_slab_along X x (map site_of js) k) g.ny) slabs) (flat_map (λ k. column_cuts g (in_slab_along X x (map site_of js) k)) slabs) refl refl refl)
-    ∙ cuts_from_pieces g js x _ _ (cuts_of-sites X js g.nx) (λ i. flat_map (λ k. rows_alike g js x k i) slabs) (λ i. flat_map (λ k. columns_alike g js x k i) slabs)
+    ∙ cuts_from_pieces g js x _ _ (cuts_of-sites keep X js g.nx) (λ i. flat_map (λ k. rows_alike keep g js x k i) slabs) (λ i. flat_map (λ k. columns_alike keep g js x k i) slabs)
 
 pub sites_are_bodies : (js : List Particle) → AreBodies js → AreBodies (map site_of js)
 sites_are_bodies js h =

@@ -1,7 +1,7 @@
 -- Particles in the order of (coordinate, id), and the cuts that they make.
-use Rattle.std.proofs.Common.{◌≡◌, ℕ, ◌-◌, ◌*◌, ◌/◌, ◌^◌, ◌<◌, ◌≤◌, Bool, true, false, cond, ◌&&◌, ◌||◌, List, [], ◌∷◌, length, get_or, map, nat_eq, nat_lt, inl, inr, refl, sym, ◌∙◌, ap, arith}
+use Rattle.std.proofs.Common.{◌≡◌, ℕ, ◌-◌, ◌*◌, ◌/◌, ◌^◌, ◌<◌, ◌≤◌, Bool, true, false, cond, ◌&&◌, ◌||◌, List, [], ◌∷◌, length, get_or, map, nat_eq, nat_lt, inl, inr, refl, sym, ◌∙◌, ap, subst, arith}
 use Rattle.std.specs.List.{range_with_len}
-use Rattle.std.specs.List.Sorted.{IsSortedBy, IsNonDecreasingBy}
+use Rattle.std.specs.List.Sorted.{IsSortedBy, IsNonDecreasing, IsNonDecreasingBy}
 use Rattle.std.specs.Cmp.{nat_cmp_is}
 use Rattle.std.specs.Ordering.{nat_cmp, ordering_then, is_lt}
 use Rattle.std.specs.declared.cmp.Ordering.{Ordering}
@@ -10,35 +10,17 @@ use Rattle.std.proofs.lemmas.Bool.{cases_lt, cases_order, both_ways, ltb-true, l
 use Rattle.std.proofs.lemmas.Bool.Decides.{Decides-eqb}
 use Rattle.std.proofs.lemmas.Cmp.{nat_cmp_total, on_total, then_total}
 use Rattle.std.proofs.lemmas.List.{length-map, get_or-map}
-use Rattle.std.proofs.lemmas.List.Sorted.{ranks_by, sorted_far}
+use Rattle.std.proofs.lemmas.List.Sorted.{IsPermutation-refl, ranks_by, sorted_far}
 use Rattle.std.proofs.lemmas.Map.Made.{AllPairs-from_IsDistinct}
 use Rattle.pf_geom.specs.Position.{Position}
 use Rattle.pf_geom.specs.declared.axis.Axis.{Axis}
 use Rattle.pf_model.specs.Particle.{Particle}
 use Rattle.pf_model.specs.Particles.{HaveDistinctIds}
-use Rattle.order_laws.specs.Order.{placed, in_order_once}
+use Rattle.order_laws.specs.Order.{in_order_once}
+use Rattle.order_laws.specs.OrderLaws.{MapsKeepOrders}
+use Rattle.model_laws.specs.DomainLaws.{CoordinatesAscend, OrdersAlongAreOne}
 use Rattle.pf_model.specs.Domains.{comes_first, coordinates_of, cuts_of}
 use Rattle.multisection.specs.Sites.{along, IsInOrder}
-
-map-cond : {X Y : Type 0} (f : X → Y) (b : Bool) (us vs : List X) → map f (cond b us vs) ≡ cond b (map f us) (map f vs)
-map-cond f true us vs = refl
-map-cond f false us vs = refl
-
-placed-map : {X Y : Type 0} (f : X → Y) (before : X → X → Bool) (before' : Y → Y → Bool) → ((x y : X) → before' (f x) (f y) ≡ before x y) → (x : X) (ys : List X) → placed before' (f x) (map f ys) ≡ map f (placed before x ys)
-placed-map f before before' same x [] = refl
-placed-map f before before' same x (y ∷ ys) =
-    let rest = placed-map f before before' same x ys in
-    let first = same x y in
-    let second = same y x in
-    (λ i. cond (first i) (f x ∷ f y ∷ map f ys) (cond (second i) (f y ∷ rest i) (f y ∷ map f ys)))
-    ∙ ap (cond (before x y) (f x ∷ f y ∷ map f ys)) (sym (map-cond f (before y x) (y ∷ placed before x ys) (y ∷ ys)))
-    ∙ sym (map-cond f (before x y) (x ∷ y ∷ ys) (cond (before y x) (y ∷ placed before x ys) (y ∷ ys)))
-
--- where two orders agree, so do the lists in order
-in_order-map : {X Y : Type 0} (f : X → Y) (before : X → X → Bool) (before' : Y → Y → Bool) → ((x y : X) → before' (f x) (f y) ≡ before x y) → (xs : List X) → in_order_once before' (map f xs) ≡ map f (in_order_once before xs)
-in_order-map f before before' same [] = refl
-in_order-map f before before' same (x ∷ xs) =
-    ap (placed before' (f x)) (in_order-map f before before' same xs) ∙ placed-map f before before' same x (in_order_once before xs)
 
 pub map-map : {X Y Z : Type 0} (f : X → Y) (g : Y → Z) (h : X → Z) → ((x : X) → g (f x) ≡ h x) → (xs : List X) → map g (map f xs) ≡ map h xs
 map-map f g h same [] = refl
@@ -48,10 +30,10 @@ orders_agree : (a b : Position → ℕ) (f : Particle → Particle) → ((j : Pa
 orders_agree a b f ids places p q = λ i. nat_lt (places p i) (places q i) || (nat_eq (places p i) (places q i) && nat_lt (ids p i) (ids q i))
 
 -- cuts come from coordinates and ids alone
-pub cuts_of-map : (a b : Position → ℕ) (f : Particle → Particle) → ((j : Particle) → (f j).id ≡ j.id) → ((j : Particle) → b (f j).at ≡ a j.at) → (js : List Particle) (m : ℕ) → cuts_of b (map f js) m ≡ cuts_of a js m
-cuts_of-map a b f ids places js m =
+pub cuts_of-map : MapsKeepOrders Particle Particle → (a b : Position → ℕ) (f : Particle → Particle) → ((j : Particle) → (f j).id ≡ j.id) → ((j : Particle) → b (f j).at ≡ a j.at) → (js : List Particle) (m : ℕ) → cuts_of b (map f js) m ≡ cuts_of a js m
+cuts_of-map keep a b f ids places js m =
     let coords : coordinates_of b (map f js) ≡ coordinates_of a js =
-    ap (map (λ (j : Particle). b j.at)) (in_order-map f (comes_first a) (comes_first b) (orders_agree a b f ids places) js)
+    ap (map (λ (j : Particle). b j.at)) (keep f (comes_first a) (comes_first b) js (orders_agree a b f ids places))
     ∙ map-map f (λ (j : Particle). b j.at) (λ (j : Particle). a j.at) places (in_order_once (comes_first a) js) in
     let long = length-map js f in
     λ i. map (λ k. get_or (coords i) (long i * k / m) (2 ^ 30)) (range_with_len 1 (m - 1))
@@ -98,17 +80,13 @@ in_order_from_sort axis js distinct sorted i j d less within =
     let far = sorted_far (is_less axis) (ranks_by order (λ (p : Particle). p)) js sorted i j d (omega arith) within in
     first_from_not_less axis (get_or js i d) (get_or js j d) far (ids_differ js distinct i j d less within)
 
-rises : (axis : Axis) (i j : Particle) → comes_first (along axis) i j ≡ true → along axis i.at ≤ along axis j.at
-rises axis i j e =
-    elim (or_cases _ _ e) [
-      | inl h ↦ (let less = ltb-true (along axis i.at) (along axis j.at) h in omega arith)
-      | inr h ↦ (let same = eqb-true (along axis i.at) (along axis j.at) (and_parts _ _ h).0 in omega arith)
-    ]
-
 -- the coordinates ascend
-pub coordinates_ascend : (axis : Axis) (js : List Particle) → IsInOrder axis js → IsNonDecreasingBy (λ j. along axis j.at) js
-coordinates_ascend axis js ordered i j d least within =
-    elim (cases_lt i j) [
-      | inl less ↦ rises axis (get_or js i d) (get_or js j d) (ordered i j d less within)
-      | inr more ↦ (let same : i ≡ j = omega arith in let e = ap (λ (k : ℕ). along axis (get_or js k d).at) same in omega arith)
-    ]
+pub coordinates_ascend : CoordinatesAscend → OrdersAlongAreOne → (axis : Axis) (js : List Particle) → IsInOrder axis js → IsNonDecreasingBy (λ j. along axis j.at) js
+coordinates_ascend ascend one axis js ordered i j d least within =
+    let place = λ (j : Particle). along axis j.at in
+    let long = length-map js place in
+    let up = subst (λ (ks : List Particle). IsNonDecreasing (map place ks)) (one (along axis) js js (IsPermutation-refl js) ordered) (ascend (along axis) js) in
+    let here = get_or-map place js i d 0 (omega arith) in
+    let there = get_or-map place js j d 0 within in
+    let below = up i j 0 least (omega arith) in
+    omega arith

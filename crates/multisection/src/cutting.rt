@@ -12,10 +12,10 @@ use crate::cuts::Cuts;
 use crate::site::{Site, sites_of};
 use crate::slab::{CUBE_SIDE, slab_of};
 use model_laws::{
-    cuts_along_ignore_order, cuts_ascend, distinct_ids_ignore_order, orders_along_are_one,
-    some_have_distinct_ids,
+    coordinates_ascend, cuts_along_ignore_order, cuts_ascend, distinct_ids_ignore_order,
+    orders_along_are_one, some_have_distinct_ids,
 };
-use order_laws::tests_keep_permutations;
+use order_laws::{maps_keep_orders, tests_keep_permutations};
 use pf_geom::Axis;
 use pf_model::{Body, Grid, MOST_PARTICLES, MOST_RANKS};
 use pf_num::OutOfMemory;
@@ -26,6 +26,7 @@ pub(crate) fn cut(alloc: Global, bodies: &[Body], grid: Grid) -> Result<Cuts, Ou
     requires { AreBodies bodies.now }
     ensures { IfOk result (λ cuts. cuts ≡ cuts_for grid bodies.now) }
 {
+    maps_keep_orders::<Body, Site>();
     let mut sites = sites_of(alloc, bodies)?;
     cut_sites(alloc, &mut sites, grid)
 }
@@ -113,7 +114,9 @@ fn sort_along(axis: Axis, sites: &mut [Site])
     ensures in_order { IsInOrder axis sites.new }
     ensures rise { IsNonDecreasingBy (λ j. along axis j.at) sites.new }
 {
+    coordinates_ascend();
     distinct_ids_ignore_order();
+    orders_along_are_one();
     sites.sort_unstable_by_key(|site| site.place(axis));
 }
 

@@ -22,5 +22,5 @@ pub returns : goal.returns
 returns c =
     let js = c.args.bodies.now in
     let g = c.args.grid in
-    let is : cuts_for g c.deref_mut.result.now ≡ cuts_for g js = ap (cuts_for g) (c.deref_mut.ensures.value ∙ c.in_ok-sites.ensures.value) ∙ cuts_for-sites g js in
+    let is : cuts_for g c.deref_mut.result.now ≡ cuts_for g js = ap (cuts_for g) (c.deref_mut.ensures.value ∙ c.in_ok-sites.ensures.value) ∙ cuts_for-sites c.maps_keep_orders.ensures g js in
     subst (λ (s : Multisection). IfOk c.cut_sites.result (λ cuts. cuts ≡ s)) is c.cut_sites.ensures

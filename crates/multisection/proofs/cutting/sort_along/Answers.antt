@@ -14,4 +14,4 @@ pub returns-clause-in_order : goal.returns-clause-in_order
 returns-clause-in_order c = in_order c
 
 pub returns-clause-rise : goal.returns-clause-rise
-returns-clause-rise c = coordinates_ascend c.args.axis c.sort_unstable_by_key.new.self (in_order c)
+returns-clause-rise c = coordinates_ascend c.coordinates_ascend.ensures c.orders_along_are_one.ensures c.args.axis c.sort_unstable_by_key.new.self (in_order c)
