@@ -1,16 +1,13 @@
 -- Keys in ascending order, and the cells that they lie in.
 use Rattle.std.proofs.Common.{◌≡◌, ℕ, zero, suc, ◌+◌, ◌-◌, ◌*◌, ◌/◌, ◌%◌, ◌^◌, ◌<◌, ◌≤◌, ◌↔◌, true, false, List, length, get_or, take, nat_lt, inl, inr, refl, sym, ◌∙◌, ap, subst, arith, bit_and}
 use Rattle.std.specs.List.Sorted.{IsNonDecreasing, IsPartitionedBy, IsPartitionPoint}
-use Rattle.std.proofs.Math.Nat.{div-mul-le_self, pow-suc, mul-pos, mul-one, mul_comm, add-mul, one-mul, div-add-mod', div-eq_of_lt, div-eq_of_lt-le, lt-mul-div-succ, pow-le-pow_right}
+use Rattle.std.proofs.Math.Nat.{div-mul-le_self, pow-suc, mul-one, mul_comm, add-mul, one-mul, div-add-mod', div-eq_of_lt, div-eq_of_lt-le, lt-mul-div-succ, pow-le-pow_right}
 use Rattle.std.proofs.lemmas.Nat.{pow-add, pow_pos, le-div, div_below, xor_lt, xor_shr, leading_length, and_mask}
 use Rattle.std.specs.Int.Bits.{bit_xor, xor_self, xor_assoc, xor_zero_r}
 use Rattle.std.specs.Int.Count.{count_leading_zeros}
 use Rattle.std.proofs.lemmas.Bool.{cases_lt, ltb-true, ltb-false, lt-ltb}
 use Rattle.std.proofs.lemmas.List.{length-take-le, get_or-take}
-use Rattle.pf_geom.specs.Bounds.{Bounds}
-use Rattle.pf_geom.specs.Gap.{square, gap2_to}
-use Rattle.pf_geom.specs.Octant.{Octant, side_at, IsCell}
-use Rattle.pf_model.specs.Criterion.{Criterion, Passes}
+use Rattle.pf_geom.specs.Octant.{Octant, IsCell}
 use Rattle.cell_runs.specs.Finding.{cell_of_key, IsCellFront, past_cell}
 
 abbrev octant : ℕ → ℕ → Octant
@@ -119,16 +116,6 @@ width_fits n within =
     let two : 1 ≤ 2 = omega arith in
     let places : 3 * n ≤ 90 = omega arith in
     pow-le-pow_right two places
-
--- at the opening angle 0 no cell passes
-pub none_passes_at_zero : (t : Criterion) (box : Bounds) (c : Octant) → 1 ≤ t.b → t.a ≡ 0 → Passes box c t → ⊥
-none_passes_at_zero t box c some none passes =
-    let gap = gap2_to t.edge box c in
-    let side = pow_pos (30 - c.level) in
-    let left : 0 < square (side_at c.level) * square t.b = mul-pos (mul-pos side side) (mul-pos some some) in
-    let nothing : gap * 0 ≡ 0 = omega arith in
-    let right : gap * square t.a ≡ 0 = ap (λ (a : ℕ). gap * (a * a)) none ∙ nothing in
-    omega (arith, passes)
 
 -- numbers of which no bit differs are equal
 same_from_xor : (a b : ℕ) → bit_xor a b ≡ 0 → a ≡ b

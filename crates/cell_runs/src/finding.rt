@@ -9,9 +9,9 @@ ghost use Rattle.cell_runs.specs.Finding.{cell_of_key, IsBetweenCells, key_befor
 ghost use Rattle.cell_runs.specs.Finding.{IsCellFront, IsFront, past_cell};
 
 use crate::cell_run::CellRun;
-use model_laws::levels_are_least;
 use opening_test::LeastGaps;
 use pf_geom::{Box3, Cell, DEEPEST, positions_share_lower_cells};
+use model_laws::{levels_are_least, nothing_passes_at_zero};
 use pf_model::{MOST_PARTICLES, Steps, Theta};
 use pf_num::OutOfMemory;
 use std::sync::ledger::Ledger;
@@ -108,6 +108,7 @@ fn first_level<L: Ledger>(
     ensures none { gaps.now.a ≡ 0 → steps.new ≡ steps.old }
 {
     levels_are_least();
+    nothing_passes_at_zero();
     if gaps.theta().a == 0 {
         return None;
     }
@@ -151,12 +152,12 @@ fn cell_of_key(key: u128, level: u32) -> Cell
 {
     Cell {
         level,
-        key: key_at(key, level),
+        key: cell_key(key, level),
     }
 }
 
-// The key of the cell at a level.
-fn key_at(key: u128, level: u32) -> u128
+/// The key of the cell at a level of what has this key: its leading bits, three for each level.
+pub fn cell_key(key: u128, level: u32) -> u128
     requires { level ≤ DEEPEST }
     ensures { result ≡ key / 8 ^ (DEEPEST - level) }
 {

@@ -8,5 +8,5 @@ mod finding;
 mod laws;
 
 pub use cell_run::CellRun;
-pub use finding::find_runs;
+pub use finding::{cell_key, find_runs};
 pub use laws::{runs_hold_each_place, runs_rise};

@@ -1,8 +1,7 @@
 use Rattle.std.proofs.Common.{ℕ, ◌≤◌, sym, ap, ◌∙◌, subst, arith}
 use Rattle.pf_geom.specs.Octant.{Octant, cell_at}
-use Rattle.pf_model.specs.Criterion.{Criterion, Passes}
+use Rattle.pf_model.specs.Criterion.{Criterion, IsCriterion, Passes}
 use Rattle.cell_runs.specs.Finding.{cell_of_key}
-use Rattle.cell_runs.proofs.KeyLemmas.{none_passes_at_zero}
 use Rattle.cell_runs.proofs.finding.first_level.Goals as goal
 
 pub returns-then-theta-eq0-clause-value : goal.returns-then-theta-eq0-clause-value
@@ -10,8 +9,8 @@ returns-then-theta-eq0-clause-value g c = λ p key shared.
     let t = c.args.gaps.now in
     let is = c.theta-2.view_is ∙ c.theta.ensures in
     let none = ap (λ (t : Criterion). t.a) (sym is) ∙ c.if-theta-eq0.true in
-    let some = subst (λ (t : Criterion). 1 ≤ t.b) is c.theta-2.invariant.denominator_positive in
-    sym ((c.levels_are_least.ensures t c.args.b p).0.1 (λ level within passes. none_passes_at_zero t c.args.b (cell_at p level) some none passes))
+    let angle = subst IsCriterion is c.theta-2.invariant in
+    sym ((c.levels_are_least.ensures t c.args.b p).0.1 (λ level within passes. c.nothing_passes_at_zero.ensures t c.args.b (cell_at p level) angle none passes))
 
 pub loop-level-init : goal.loop-level-init
 loop-level-init g c =

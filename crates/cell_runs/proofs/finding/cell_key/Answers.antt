@@ -1,6 +1,6 @@
 use Rattle.std.proofs.Common.{◌-◌, ◌/◌, ap}
 use Rattle.cell_runs.proofs.KeyLemmas.{eight_pow}
-use Rattle.cell_runs.proofs.finding.key_at.Goals as goal
+use Rattle.cell_runs.proofs.finding.cell_key.Goals as goal
 
 pub returns : goal.returns
 returns c = ap (λ w. c.args.key / w) (eight_pow (30 - c.args.level))
