@@ -8,11 +8,11 @@ use Rattle.pf_model.specs.declared.entry.Entry.TheVariants.{Cell, One}
 use Rattle.pf_model.specs.Particle.{Particle}
 use Rattle.pf_model.specs.Criterion.{Criterion}
 use Rattle.pf_model.specs.Sums.{moment_of}
-use Rattle.pf_model.specs.Interaction.{entry_place, level_of, leads_to_cell, members_of, entry_at, entry_of}
+use Rattle.pf_model.specs.Interaction.{level_of, leads_to_cell, members_of, entry_at, entry_of}
 use Rattle.model_laws.specs.ListLaws.{LevelsAreLeast}
 use Rattle.morton_tree.specs.Spans.{at_span}
 use Rattle.tree_lists.specs.declared.piece.Piece.{Piece}
-use Rattle.tree_lists.specs.Pieces.{IsPieceOf}
+use Rattle.tree_lists.specs.Pieces.{piece_place, IsPieceOf}
 use Rattle.tree_lists.proofs.SpanLemmas.{length-span, read_span}
 
 -- the first particle of a piece leads to its entry
@@ -26,11 +26,11 @@ first_leads t box js e q d h =
 
 cell_by_level : (t : Criterion) (box : Bounds) (js : List Particle) (e : Entry) (q : Piece) (x : Particle) (o : Option ℕ) → IsPieceOf t box js e q → entry_at t box js x o ≡ e → q.place.0 ≤ 30 → Cell (cell_at x.at q.place.0) (moment_of (at_span q.span js)) ≡ e
 cell_by_level t box js e q x None h is shallow =
-    let level = ap (λ (v : ℕ × ℕ). v.0) (h.place ∙ ap entry_place (sym is)) in
+    let level = ap (λ (v : ℕ × ℕ). v.0) (h.place ∙ ap (λ (f : Entry). piece_place f q.span.first) (sym is)) in
     absurd (omega arith)
 cell_by_level t box js e q x (Some l) h is shallow =
     let c = cell_at x.at l in
-    let level : q.place.0 ≡ l = ap (λ (v : ℕ × ℕ). v.0) (h.place ∙ ap entry_place (sym is)) in
+    let level : q.place.0 ≡ l = ap (λ (v : ℕ × ℕ). v.0) (h.place ∙ ap (λ (f : Entry). piece_place f q.span.first) (sym is)) in
     let members : at_span q.span js ≡ filter (leads_to_cell t box c) js = h.members ∙ ap (members_of t box js) (sym is) in
     (λ i. Cell (cell_at x.at (level i)) (moment_of (members i))) ∙ is
 
@@ -42,7 +42,7 @@ cell_entry t box js e q d h shallow =
 one_by_level : LevelsAreLeast → (t : Criterion) (box : Bounds) (js : List Particle) (e : Entry) (q : Piece) (x : Particle) (o : Option ℕ) → IsPieceOf t box js e q → level_of t box x.at ≡ o → entry_at t box js x o ≡ e → 30 < q.place.0 → One x ≡ e
 one_by_level laws t box js e q x None h level is deep = is
 one_by_level laws t box js e q x (Some l) h level is deep =
-    let same : q.place.0 ≡ l = ap (λ (v : ℕ × ℕ). v.0) (h.place ∙ ap entry_place (sym is)) in
+    let same : q.place.0 ≡ l = ap (λ (v : ℕ × ℕ). v.0) (h.place ∙ ap (λ (f : Entry). piece_place f q.span.first) (sym is)) in
     let within = (((laws t box x.at).1 l).0 level).within in
     absurd (omega arith)
 

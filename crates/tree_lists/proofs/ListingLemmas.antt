@@ -1,5 +1,5 @@
 -- Entries of pieces that are in order are a list.
-use Rattle.std.proofs.Common.{◌≡◌, ℕ, suc, ◌+◌, ◌<◌, ◌≤◌, Bool, true, false, List, [], ◌∷◌, ◌++◌, length, get_or, map, nat_eq, ◌⊎◌, inl, inr, refl, sym, ◌∙◌, ap, subst, arith}
+use Rattle.std.proofs.Common.{◌≡◌, ℕ, suc, ◌+◌, ◌-◌, ◌*◌, ◌/◌, ◌^◌, ◌<◌, ◌≤◌, Bool, true, false, List, [], ◌∷◌, ◌++◌, length, get_or, map, nat_eq, Option, Some, None, inl, inr, refl, sym, ◌∙◌, ap, subst, arith}
 use Rattle.std.specs.List.{All, Contains}
 use Rattle.std.specs.List.Sorted.{IsPermutation, IsSortedBy}
 use Rattle.std.specs.Cmp.{nat_cmp_is}
@@ -11,28 +11,32 @@ use Rattle.std.proofs.lemmas.Bool.Decides.{Decides-eqb, nat_tests}
 use Rattle.std.proofs.lemmas.Cmp.{nat_cmp_total, on_total, then_total}
 use Rattle.std.proofs.lemmas.List.{length-map, get_or-map, get_or_default, length_push, get_or_push}
 use Rattle.std.proofs.Math.ListN.{get_or-append}
+use Rattle.std.proofs.Math.Nat.{div-mul-le_self, pow-le-pow_right}
+use Rattle.std.proofs.lemmas.Nat.{le-div}
 use Rattle.std.proofs.lemmas.List.MinMax.{ranks_by}
 use Rattle.std.proofs.lemmas.List.Sorted.{sorted_far, length_permutation, All-permutation, Contains-permutation, IsPermutation-map}
 use Rattle.std.proofs.lemmas.Map.Keys.{IsDistinct-IsPermutation}
 use Rattle.std.proofs.lemmas.Map.Made.{AllPairs-from_IsDistinct, IsDistinct-from_AllPairs}
 use Rattle.pf_geom.specs.Bounds.{Bounds}
 use Rattle.pf_model.specs.declared.entry.Entry.{Entry}
-use Rattle.pf_model.specs.declared.entry.Entry.TheVariants.{One}
+use Rattle.pf_model.specs.declared.entry.Entry.TheVariants.{Cell, One}
 use Rattle.pf_model.specs.Particle.{Particle}
 use Rattle.pf_model.specs.Particles.{HaveDistinctIds}
 use Rattle.pf_model.specs.Criterion.{Criterion}
-use Rattle.pf_model.specs.Interaction.{entry_place, members_of, entry_of, comes_before, list_of}
+use Rattle.pf_model.specs.Interaction.{entry_place, level_of, members_of, entry_at, entry_of, comes_before, list_of}
 use Rattle.model_laws.specs.ListLaws.{ListsHoldTheirEntries, HasLevel, EntriesHaveLevels, EntriesStandByPlace, EntriesAtOnePlaceAreOne}
 use Rattle.morton_tree.specs.declared.span.Span.{Span}
 use Rattle.morton_tree.specs.Spans.{at_span}
+use Rattle.morton_tree.specs.Tree.{IsInKeyOrder}
 use Rattle.cell_runs.specs.declared.cell_run.CellRun.{CellRun}
 use Rattle.tree_lists.specs.declared.piece.Piece.{Piece}
 use Rattle.tree_lists.specs.Members.{AreSpansOf}
-use Rattle.tree_lists.specs.Pieces.{piece_of, ArePiecesOf, IsPieceOf, ArePieces, IsInPlaceOrder, AreEntriesOf}
+use Rattle.tree_lists.specs.Pieces.{piece_place, piece_of, IsNoHigher, ArePiecesOf, IsPieceOf, ArePieces, IsInPlaceOrder, AreEntriesOf}
 use Rattle.tree_lists.proofs.SpanLemmas.{read_span, place_of_id}
 use Rattle.tree_lists.proofs.EntryLemmas.{first_leads}
+use Rattle.tree_lists.proofs.KeyLemmas.{key_of, keys_rise}
 
-abbrev nobody : Particle
+abbrev pub nobody : Particle
 nobody = record { id = 0; at = record { x = 0; y = 0; z = 0 }; vel = []; mass = 0; attr = [] }
 
 abbrev pub no_piece : Piece
@@ -115,7 +119,7 @@ pub record PlaceLaws : Type 0 where
   pub order : EntriesStandByPlace
 
 -- of two entries at different places the one whose place is no higher comes first
-before_by_place : PlaceLaws → (e f : Entry) → HasLevel e → HasLevel f → ((entry_place e).0 < (entry_place f).0) ⊎ (((entry_place e).0 ≡ (entry_place f).0) × ((entry_place e).1 ≤ (entry_place f).1)) → (entry_place e ≡ entry_place f → ⊥) → comes_before e f ≡ true
+before_by_place : PlaceLaws → (e f : Entry) → HasLevel e → HasLevel f → IsNoHigher (entry_place e) (entry_place f) → (entry_place e ≡ entry_place f → ⊥) → comes_before e f ≡ true
 before_by_place laws e f low high rise differ =
     (laws.order e f low high).1 (elim rise [
       | inl less ↦ inl less
@@ -156,9 +160,62 @@ places_differ law t box js distinct e f q r h k apart same =
     let at = place_of_id js distinct (q.span.first + 0) (r.span.first + 0) nobody nobody (omega arith) (omega arith) (ap (λ (j : Particle). j.id) heads) in
     apart (omega arith)
 
+-- the particle has the key of the entry's cell, if it is one
+abbrev IsIn : Particle → Entry → Type 0
+IsIn x (Cell c m) = c.key ≡ key_of x / 8 ^ (30 - c.level)
+IsIn x (One p) = Unit {0}
+
+in_own : (t : Criterion) (box : Bounds) (js : List Particle) (x : Particle) (o : Option ℕ) → IsIn x (entry_at t box js x o)
+in_own t box js x None = tt
+in_own t box js x (Some level) = refl
+
+first_in : (t : Criterion) (box : Bounds) (js : List Particle) (e : Entry) (q : Piece) → IsPieceOf t box js e q → IsIn (first_of js q) e
+first_in t box js e q h =
+    let x = first_of js q in
+    subst (IsIn x) (first_leads t box js e q nobody h) (in_own t box js x (level_of t box x.at))
+
+-- keys that don't fall are of cells that don't
+cells_rise : (low high n : ℕ) → low ≤ high → low / 8 ^ n ≤ high / 8 ^ n
+cells_rise low high n rise =
+    let width = 8 ^ n in
+    let eight : 1 ≤ 8 = omega arith in
+    let none : 0 ≤ n = omega arith in
+    let some : 8 ^ 0 ≤ 8 ^ n = pow-le-pow_right eight none in
+    let wide : 0 < 8 ^ n = omega arith in
+    le-div (low / width) high width wide (omega (arith, div-mul-le_self low width))
+
+-- what stands in key order stands by the places of entries
+rise_by_case : (x y : Particle) (e f : Entry) (a b : ℕ) → HasLevel e → HasLevel f → IsIn x e → IsIn y f → (a ≤ b → key_of x ≤ key_of y) → IsNoHigher (piece_place e a) (piece_place f b) → IsNoHigher (entry_place e) (entry_place f)
+rise_by_case x y (Cell c m) (Cell d n) a b low high in_e in_f keys rise =
+    elim rise [
+      | inl less ↦ inl less
+      | inr both ↦
+          let same : c.level ≡ d.level = both.0 in
+          let width : 8 ^ (30 - c.level) ≡ 8 ^ (30 - d.level) = ap (λ (l : ℕ). 8 ^ (30 - l)) same in
+          let least : key_of x / 8 ^ (30 - c.level) ≤ key_of y / 8 ^ (30 - c.level) = cells_rise (key_of x) (key_of y) (30 - c.level) (keys both.1) in
+          let over : key_of y / 8 ^ (30 - c.level) ≡ key_of y / 8 ^ (30 - d.level) = ap (λ (w : ℕ). key_of y / w) width in
+          inr (same, omega (arith, least, over, in_e, in_f))
+    ]
+rise_by_case x y (Cell c m) (One q) a b low high in_e in_f keys rise = inl (omega arith)
+rise_by_case x y (One p) (Cell d n) a b low high in_e in_f keys rise =
+    absurd (elim rise [
+      | inl less ↦ omega arith
+      | inr both ↦ (let same = both.0 in omega arith)
+    ])
+rise_by_case x y (One p) (One q) a b low high in_e in_f keys rise = rise
+
+places_rise : (t : Criterion) (box : Bounds) (js : List Particle) (e f : Entry) (q r : Piece) → IsInKeyOrder js → HasLevel e → HasLevel f → IsPieceOf t box js e q → IsPieceOf t box js f r → IsNoHigher q.place r.place → IsNoHigher (entry_place e) (entry_place f)
+places_rise t box js e f q r up low high h k rise =
+    let some = k.some in
+    let inside = k.inside in
+    let second : IsNoHigher q.place (piece_place f r.span.first) = subst (IsNoHigher q.place) k.place rise in
+    rise_by_case (first_of js q) (first_of js r) e f q.span.first r.span.first low high (first_in t box js e q h) (first_in t box js f r k)
+    (λ least. keys_rise js up q.span.first r.span.first nobody least (omega arith))
+    (let P : ℕ × ℕ → Type 0 = λ v. IsNoHigher v (piece_place f r.span.first) in subst P h.place second)
+
 -- the entries of pieces in order are the list
-pub list_from_pieces : PlaceLaws → ListsHoldTheirEntries → (t : Criterion) (box : Bounds) (js : List Particle) (qs : List Piece) (es : List Entry) → HaveDistinctIds js → ArePieces t box js qs → IsInPlaceOrder qs → AreEntriesOf t box js es qs → es ≡ list_of t box js
-list_from_pieces laws lists t box js qs es distinct pieces order entries =
+pub list_from_pieces : PlaceLaws → ListsHoldTheirEntries → (t : Criterion) (box : Bounds) (js : List Particle) (qs : List Piece) (es : List Entry) → HaveDistinctIds js → IsInKeyOrder js → ArePieces t box js qs → IsInPlaceOrder qs → AreEntriesOf t box js es qs → es ≡ list_of t box js
+list_from_pieces laws lists t box js qs es distinct up pieces order entries =
     let counted = entries.counted in
     (lists t box js es distinct).0 (record {
       ordered = λ i j d less within.
@@ -171,8 +228,7 @@ list_from_pieces laws lists t box js qs es distinct pieces order entries =
           let k = entries.each j d no_piece in_j in
           let low : HasLevel e = subst HasLevel (first_leads t box js e q nobody h) (laws.levels t box js (first_of js q)) in
           let high : HasLevel f = subst HasLevel (first_leads t box js f r nobody k) (laws.levels t box js (first_of js r)) in
-          let Rise : ℕ × ℕ → ℕ × ℕ → Type 0 = λ v w. (v.0 < w.0) ⊎ ((v.0 ≡ w.0) × (v.1 ≤ w.1)) in
-          let rise : Rise (entry_place e) (entry_place f) = subst (Rise (entry_place e)) k.place (let P : ℕ × ℕ → Type 0 = λ v. Rise v r.place in subst P h.place (order i j no_piece less in_j)) in
+          let rise = places_rise t box js e f q r up low high h k (order i j no_piece less in_j) in
           before_by_place laws e f low high rise (places_differ laws.one t box js distinct e f q r h k (pieces.apart i j no_piece less in_j));
       complete = λ j there.
           let found = pieces.complete j there in

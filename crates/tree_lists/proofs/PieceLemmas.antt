@@ -13,7 +13,7 @@ use Rattle.pf_model.specs.Particle.{Particle}
 use Rattle.pf_model.specs.Particles.{HaveDistinctIds}
 use Rattle.pf_model.specs.Criterion.{Criterion}
 use Rattle.pf_model.specs.Sums.{moment_of}
-use Rattle.pf_model.specs.Interaction.{entry_place, level_of, is_cell, leads_to_cell, leads_to, members_of, entry_at, entry_of}
+use Rattle.pf_model.specs.Interaction.{level_of, is_cell, leads_to_cell, leads_to, members_of, entry_at, entry_of}
 use Rattle.model_laws.specs.ListLaws.{LevelsAreLeast, FirstCellsHoldTheirMembers}
 use Rattle.morton_tree.specs.declared.span.Span.{Span}
 use Rattle.morton_tree.specs.Spans.{at_span}
@@ -21,7 +21,7 @@ use Rattle.cell_runs.specs.declared.cell_run.CellRun.{CellRun}
 use Rattle.cell_runs.specs.CellRuns.{IsPlaceOf, IsWholeCell, IsCellRun, AreCellRuns}
 use Rattle.cell_runs.specs.RunLaws.{RunsHoldEachPlace, RunsRise}
 use Rattle.tree_lists.specs.declared.piece.Piece.{Piece}
-use Rattle.tree_lists.specs.Pieces.{place_by_level, piece_of, IsRunAmong, ArePiecesOf, IsPieceOf, ArePieces}
+use Rattle.tree_lists.specs.Pieces.{place_by_level, piece_place, piece_of, IsRunAmong, ArePiecesOf, IsPieceOf, ArePieces}
 use Rattle.tree_lists.proofs.SpanLemmas.{PassAt, filter_is_span, length-span, read_span, in_span, place_of_id}
 
 abbrev origin : Position
@@ -116,9 +116,9 @@ members_alone t box js r distinct run is =
     ) in
     filter_is_span (leads_to t box (One x)) js r.first r.len inside pass
 
-place_is : (t : Criterion) (box : Bounds) (js : List Particle) (j : Particle) (o : Option ℕ) → place_by_level o j ≡ entry_place (entry_at t box js j o)
-place_is t box js j None = refl
-place_is t box js j (Some level) = refl
+place_is : (t : Criterion) (box : Bounds) (js : List Particle) (first : ℕ) (j : Particle) (o : Option ℕ) → place_by_level o first j ≡ piece_place (entry_at t box js j o) first
+place_is t box js first j None = refl
+place_is t box js first j (Some level) = refl
 
 -- what all particles of a run lead to
 members_by_level : LevelsAreLeast → FirstCellsHoldTheirMembers → (t : Criterion) (box : Bounds) (js : List Particle) (r : CellRun) (o : Option ℕ) → HaveDistinctIds js → IsRunOver t box js r → r.level ≡ o → at_span (span_of_run r) js ≡ members_of t box js (entry_at t box js (lead js r) o)
@@ -141,7 +141,7 @@ piece_from_run laws members t box js r distinct run =
     let level = level_of_lead t box js r run in
     let entry : entry_of t box js x ≡ entry_at t box js x r.level = ap (entry_at t box js x) level in
     record {
-      place = ap (λ (o : Option ℕ). place_by_level o x) (sym level) ∙ place_is t box js x (level_of t box x.at);
+      place = ap (λ (o : Option ℕ). place_by_level o r.first x) (sym level) ∙ place_is t box js r.first x (level_of t box x.at);
       some = run.some;
       inside = run.inside;
       members = members_by_level laws members t box js r r.level distinct run refl ∙ ap (members_of t box js) (sym entry);

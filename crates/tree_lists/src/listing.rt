@@ -1,7 +1,10 @@
-ghost use Rattle.std.specs.Prelude.{◌≡◌, ◌+◌, ◌*◌, ◌≤◌, All, IfOk, IsPermutation, length, map};
+ghost use Rattle.std.specs.Prelude.{◌≡◌, ◌+◌, ◌*◌, ◌<◌, ◌≤◌, All, IfOk, IsPermutation, length, map};
+ghost use Rattle.std.specs.Prelude.{slice_index_or};
 ghost use Rattle.pf_geom.specs.Bounds.{Bounds};
+ghost use Rattle.pf_geom.specs.Octant.{cell_at};
 ghost use Rattle.pf_model.specs.declared.entry.Entry.{Entry};
 ghost use Rattle.pf_model.specs.Criterion.{Criterion};
+ghost use Rattle.pf_model.specs.Particle.{Particle};
 ghost use Rattle.pf_model.specs.Interaction.{list_of};
 ghost use Rattle.morton_tree.specs.Tree.{IsOctree, IsUnmoved};
 ghost use Rattle.tree_lists.specs.Members.{AreSpansOf};
@@ -9,13 +12,13 @@ ghost use Rattle.tree_lists.specs.Pieces.{IsPieceOf, ArePieces, AreEntriesOf, Is
 
 use crate::piece::Piece;
 use crate::pieces::pieces_of;
-use cell_runs::CellRun;
+use cell_runs::{CellRun, cell_key};
+use morton_tree::{Span, Tree};
+use pf_geom::{Box3, Cell, DEEPEST, positions_have_cells};
 use model_laws::{
     entries_at_one_place_are_one, entries_have_levels, entries_stand_by_place, levels_are_least,
     lists_hold_their_entries,
 };
-use morton_tree::{Span, Tree};
-use pf_geom::{Box3, DEEPEST, cell_of};
 use pf_model::{Entry, Steps, Theta};
 use pf_num::OutOfMemory;
 use std::alloc::Global;
@@ -80,12 +83,26 @@ fn entry_of(tree: &Tree, piece: Piece) -> Entry
     ensures { (t : Criterion) (box : Bounds) (e : Entry) → IsPieceOf t box tree.now.built e piece → result ≡ e }
 {
     levels_are_least();
-    let first = &tree.bodies()[piece.span.first as usize];
+    let first = piece.span.first as usize;
     let (level, _) = piece.place;
     if level <= DEEPEST {
-        Entry::Cell(cell_of(first.at, level), tree.moment(piece.span))
+        Entry::Cell(cell_at(tree, first, level), tree.moment(piece.span))
     } else {
-        Entry::One(*first)
+        Entry::One(tree.bodies()[first])
+    }
+}
+
+// The cell at a level of a tree's body at a place. The key that the tree keeps of it has the cell's own.
+fn cell_at(tree: &Tree, place: usize, level: u32) -> Cell
+    requires inside { place < length tree.now.built }
+    requires level { level ≤ DEEPEST }
+    ensures { (j : Particle) → result ≡ cell_at (slice_index_or tree.now.built place j).at level }
+{
+    positions_have_cells();
+    let keys = tree.keys();
+    Cell {
+        level,
+        key: cell_key(keys[place], level),
     }
 }
 

@@ -1,12 +1,12 @@
-ghost use Rattle.std.specs.Prelude.{◌≡◌, ◌+◌, ◌*◌, ◌≤◌, All, IfOk, IfSome, length, map};
+ghost use Rattle.std.specs.Prelude.{◌≡◌, ◌+◌, ◌*◌, ◌≤◌, All, IfOk, length, map};
 ghost use Rattle.morton_tree.specs.Tree.{IsOctree, IsUnmoved};
 ghost use Rattle.tree_lists.specs.Pieces.{piece_of, IsRunAmong, ArePiecesOf, ArePieces};
 
 use crate::piece::Piece;
 use cell_runs::{CellRun, find_runs, runs_hold_each_place, runs_rise};
-use model_laws::{first_cells_hold_their_members, levels_are_least};
 use morton_tree::{Span, Tree};
-use pf_geom::{Box3, DEEPEST, cell_of, positions_have_cells};
+use pf_geom::{Box3, DEEPEST, keys_fit};
+use model_laws::{first_cells_hold_their_members, levels_are_least};
 use pf_model::{Body, Steps, Theta};
 use pf_num::OutOfMemory;
 use std::alloc::Global;
@@ -32,7 +32,7 @@ pub(crate) fn pieces_of<L: Ledger>(
 {
     levels_are_least();
     first_cells_hold_their_members();
-    positions_have_cells();
+    keys_fit();
     runs_hold_each_place();
     runs_rise();
     let bodies = tree.bodies();
@@ -54,12 +54,11 @@ fn pieces_for(alloc: Global, bodies: &[Body], runs: &[CellRun]) -> Result<Vec<Pi
 
 // The piece of a cell run whose first body is this one.
 fn piece_of(run: CellRun, body: &Body) -> Piece
-    requires { IfSome run.level (λ level. level ≤ DEEPEST) }
     ensures { result ≡ piece_of run body.now }
 {
     let place = match run.level {
-        Some(level) => (level, cell_of(body.at, level).key),
-        None => (AFTER_CELLS, u128::from(body.id)),
+        Some(level) => (level, run.first),
+        None => (AFTER_CELLS, body.id),
     };
     Piece {
         place,

@@ -37,7 +37,7 @@ returns-clause-entries g c =
       levels = c.entries_have_levels.ensures;
       order = c.entries_stand_by_place.ensures;
     }) c.lists_hold_their_entries.ensures c.args.t c.args.b c.args.tree.now.built c.put_in_order.new.pieces.items c.in_ok-entries.entries.items
-    c.pieces_of.ensures.tree.are_bodies.distinct (ordered g c) c.put_in_order.ensures.ordered (entries g c)
+    c.pieces_of.ensures.tree.are_bodies.distinct c.pieces_of.ensures.tree.ordered (ordered g c) c.put_in_order.ensures.ordered (entries g c)
 
 pub returns-clause-spans : goal.returns-clause-spans
 returns-clause-spans g c =

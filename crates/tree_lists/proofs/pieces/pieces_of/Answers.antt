@@ -13,7 +13,7 @@ use Rattle.tree_lists.proofs.pieces.pieces_of.Goals as goal
 
 pub find_runs-requires-clause-keys : goal.find_runs-requires-clause-keys
 find_runs-requires-clause-keys g c =
-    subst (All (λ (key : ℕ). key < 2 ^ 90)) (sym c.keys.ensures.value) (keys_fit c.positions_have_cells.ensures c.args.tree.now.built)
+    subst (All (λ (key : ℕ). key < 2 ^ 90)) (sym c.keys.ensures.value) (keys_fit c.keys_fit.ensures c.args.tree.now.built)
 
 pub find_runs-requires-clause-ascending : goal.find_runs-requires-clause-ascending
 find_runs-requires-clause-ascending g c =
