@@ -1,3 +1,2 @@
-pub mod MomentLemmas
 pub mod PrefixLemmas
 pub mod SumLemmas

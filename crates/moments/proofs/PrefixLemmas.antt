@@ -10,8 +10,8 @@ use Rattle.std.proofs.lemmas.List.Elements.{All-nil, All-cons, All-head, All-tai
 use Rattle.pf_model.specs.Particle.{Particle}
 use Rattle.pf_model.specs.Totals.{Totals, IsTotals}
 use Rattle.pf_model.specs.Sums.{moment_of, together, pairwise_sums}
+use Rattle.model_laws.specs.MomentLaws.{MomentsAddUp}
 use Rattle.moments.specs.Prefix.{prefix_moments, HasLimitedMoment}
-use Rattle.moments.proofs.MomentLemmas.{moments_join}
 
 -- the first n of the prefix moments
 abbrev pub first_moments : List Particle → ℕ → List Totals
@@ -109,11 +109,11 @@ at_prefix js ms k d is within =
     ap (λ (l : List Totals). get_or l k d) (is ∙ prefix_moments_are_first js) ∙ get_or-map-range_with_len (λ k. moment_of (take k js)) 0 (length js + 1) k k d (omega arith) (omega arith)
 
 -- the moment of a range together with that before it is that through its end
-pub range_makes : (js : List Particle) (ms : List Totals) (i n : ℕ) (through before : Totals) → ms ≡ prefix_moments js → i + n < length ms →
+pub range_makes : MomentsAddUp → (js : List Particle) (ms : List Totals) (i n : ℕ) (through before : Totals) → ms ≡ prefix_moments js → i + n < length ms →
     through ≡ get_or ms (i + n) through → before ≡ get_or ms i before → through ≡ together before (moment_of (take n (drop i js)))
-range_makes js ms i n through before is within at_end at_start =
+range_makes add js ms i n through before is within at_end at_start =
     let before_is = at_start ∙ at_prefix js ms i before is (omega arith) in
-    at_end ∙ at_prefix js ms (i + n) through is within ∙ ap moment_of (take-add i n js) ∙ moments_join (take i js) (take n (drop i js))
+    at_end ∙ at_prefix js ms (i + n) through is within ∙ ap moment_of (take-add i n js) ∙ add (take i js) (take n (drop i js))
     ∙ ap (λ (t : Totals). together t (moment_of (take n (drop i js)))) (sym before_is)
 
 -- one particle more
@@ -121,11 +121,11 @@ range_makes js ms i n through before is within at_end at_start =
 take_one_more : (js : List Particle) (i : ℕ) (j : Particle) → i < length js → j ≡ get_or js i j → take (i + 1) js ≡ take i js ++ (j ∷ [])
 take_one_more js i j within at_place = take_more js i j within ∙ ap (λ (k : Particle). take i js ++ (k ∷ [])) (sym at_place)
 
-pub moment_more : (js : List Particle) (i : ℕ) (j : Particle) (so_far one : Totals) → i < length js → j ≡ get_or js i j → so_far ≡ moment_of (take i js) → one ≡ moment_of (j ∷ []) →
+pub moment_more : MomentsAddUp → (js : List Particle) (i : ℕ) (j : Particle) (so_far one : Totals) → i < length js → j ≡ get_or js i j → so_far ≡ moment_of (take i js) → one ≡ moment_of (j ∷ []) →
     together so_far one ≡ moment_of (take (i + 1) js)
-moment_more js i j so_far one within at_place so_far_is one_is =
+moment_more add js i j so_far one within at_place so_far_is one_is =
     ap (λ (t : Totals). together t one) so_far_is ∙ ap (λ (t : Totals). together (moment_of (take i js)) t) one_is
-    ∙ sym (moments_join (take i js) (j ∷ [])) ∙ ap moment_of (sym (take_one_more js i j within at_place))
+    ∙ sym (add (take i js) (j ∷ [])) ∙ ap moment_of (sym (take_one_more js i j within at_place))
 
 pub first_moments-more : (js : List Particle) (n : ℕ) (ms : List Totals) (m : Totals) → ms ≡ first_moments js n → m ≡ moment_of (take n js) → ms ++ (m ∷ []) ≡ first_moments js (n + 1)
 first_moments-more js n ms m ms_are m_is =

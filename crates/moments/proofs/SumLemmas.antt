@@ -10,61 +10,28 @@ use Rattle.std.proofs.lemmas.List.Elements.{All-head, All-tail, All-take, All-dr
 use Rattle.pf_model.specs.Particle.{Particle}
 use Rattle.pf_model.specs.Totals.{Totals, IsTotals}
 use Rattle.pf_model.specs.Sums.{moment_of, together, pairwise_sums}
+use Rattle.model_laws.specs.MomentLaws.{MomentsAddUp, MomentsJoinInAnyOrder}
 use Rattle.moments.specs.Prefix.{prefix_moments, HasLimitedMoment, all_together, prefix_sums, particle_count, IsPrefix}
-use Rattle.moments.proofs.MomentLemmas.{moments_join}
 use Rattle.moments.proofs.PrefixLemmas.{count_is, three_weighted, eight_attributes, IsTotals-together, IsTotals-none}
-
-sums_comm : (xs ys : List ℤ) → pairwise_sums xs ys ≡ pairwise_sums ys xs
-sums_comm [] [] = refl
-sums_comm [] (y ∷ ys) = refl
-sums_comm (x ∷ xs) [] = refl
-sums_comm (x ∷ xs) (y ∷ ys) =
-    let head : x +ℤ y ≡ y +ℤ x = omega (arith, ints) in
-    let rest = sums_comm xs ys in
-    λ i. head i ∷ rest i
-
-sums_assoc : (xs ys zs : List ℤ) → pairwise_sums (pairwise_sums xs ys) zs ≡ pairwise_sums xs (pairwise_sums ys zs)
-sums_assoc [] ys zs = refl
-sums_assoc (x ∷ xs) [] zs = refl
-sums_assoc (x ∷ xs) (y ∷ ys) [] = refl
-sums_assoc (x ∷ xs) (y ∷ ys) (z ∷ zs) =
-    let head : (x +ℤ y) +ℤ z ≡ x +ℤ (y +ℤ z) = omega (arith, ints) in
-    let rest = sums_assoc xs ys zs in
-    λ i. head i ∷ rest i
-
-together-comm : (m n : Totals) → together m n ≡ together n m
-together-comm m n =
-    let count : m.count + n.count ≡ n.count + m.count = omega arith in
-    let mass : m.mass + n.mass ≡ n.mass + m.mass = omega arith in
-    let each : (k : ℕ) → get_or m.weighted k 0 + get_or n.weighted k 0 ≡ get_or n.weighted k 0 + get_or m.weighted k 0 = λ k. omega arith in
-    λ i. record { count = count i; mass = mass i; weighted = each 0 i ∷ each 1 i ∷ each 2 i ∷ []; attr = sums_comm m.attr n.attr i }
-
-together-assoc : (m n o : Totals) → together (together m n) o ≡ together m (together n o)
-together-assoc m n o =
-    let count : (m.count + n.count) + o.count ≡ m.count + (n.count + o.count) = omega arith in
-    let mass : (m.mass + n.mass) + o.mass ≡ m.mass + (n.mass + o.mass) = omega arith in
-    let each : (k : ℕ) → (get_or m.weighted k 0 + get_or n.weighted k 0) + get_or o.weighted k 0 ≡ get_or m.weighted k 0 + (get_or n.weighted k 0 + get_or o.weighted k 0) = λ k. omega arith in
-    λ i. record { count = count i; mass = mass i; weighted = each 0 i ∷ each 1 i ∷ each 2 i ∷ []; attr = sums_assoc m.attr n.attr o.attr i }
-
--- two of three exchanged
-together-turn : (m n o : Totals) → together m (together n o) ≡ together n (together m o)
-together-turn m n o = sym (together-assoc m n o) ∙ ap (λ (x : Totals). together x o) (together-comm m n) ∙ together-assoc n m o
 
 none_together : together (moment_of []) (moment_of []) ≡ moment_of []
 unfolding moment_of
 none_together = refl
 
-with_none : (ms : List Totals) → together (moment_of []) (all_together ms) ≡ all_together ms
-with_none [] = none_together
-with_none (m ∷ ms) = together-turn (moment_of []) m (all_together ms) ∙ ap (together m) (with_none ms)
+with_none : MomentsJoinInAnyOrder → (ms : List Totals) → together (moment_of []) (all_together ms) ≡ all_together ms
+with_none join [] = none_together
+with_none join (m ∷ ms) =
+    let none = moment_of [] in
+    let rest = all_together ms in
+    sym (join.1 none m rest) ∙ ap (λ (t : Totals). together t rest) (join.0 none m) ∙ join.1 m none rest ∙ ap (together m) (with_none join ms)
 
-all-append : (ms ns : List Totals) → all_together (ms ++ ns) ≡ together (all_together ms) (all_together ns)
-all-append [] ns = sym (with_none ns)
-all-append (m ∷ ms) ns = ap (together m) (all-append ms ns) ∙ sym (together-assoc m (all_together ms) (all_together ns))
+all-append : MomentsJoinInAnyOrder → (ms ns : List Totals) → all_together (ms ++ ns) ≡ together (all_together ms) (all_together ns)
+all-append join [] ns = sym (with_none join ns)
+all-append join (m ∷ ms) ns = ap (together m) (all-append join ms ns) ∙ sym (join.1 m (all_together ms) (all_together ns))
 
-all-push : (ms : List Totals) (m : Totals) → all_together (ms ++ m ∷ []) ≡ together (all_together ms) m
-all-push [] m = together-comm m (moment_of [])
-all-push (n ∷ ns) m = ap (together n) (all-push ns m) ∙ sym (together-assoc n (all_together ns) m)
+all-push : MomentsJoinInAnyOrder → (ms : List Totals) (m : Totals) → all_together (ms ++ m ∷ []) ≡ together (all_together ms) m
+all-push join [] m = join.0 m (moment_of [])
+all-push join (n ∷ ns) m = ap (together n) (all-push join ns m) ∙ sym (join.1 n (all_together ns) m)
 
 -- how many particles, and how many numbers there are of them
 
@@ -151,11 +118,11 @@ at_sum ms sums k d is within =
     ap (λ (l : List Totals). get_or l k d) is ∙ get_or-map-range_with_len (λ k. all_together (take k ms)) 0 (length ms + 1) k k d (omega arith) (omega arith)
 
 -- the sum of a range together with that before it is that through its end
-pub sum_makes : (ms sums : List Totals) (i n : ℕ) (through before : Totals) → sums ≡ prefix_sums ms → i + n < length sums → through ≡ get_or sums (i + n) through → before ≡ get_or sums i before →
+pub sum_makes : MomentsJoinInAnyOrder → (ms sums : List Totals) (i n : ℕ) (through before : Totals) → sums ≡ prefix_sums ms → i + n < length sums → through ≡ get_or sums (i + n) through → before ≡ get_or sums i before →
     through ≡ together before (all_together (take n (drop i ms)))
-sum_makes ms sums i n through before is within at_end at_start =
+sum_makes join ms sums i n through before is within at_end at_start =
     let before_is = at_start ∙ at_sum ms sums i before is (omega arith) in
-    at_end ∙ at_sum ms sums (i + n) through is within ∙ ap all_together (take-add i n ms) ∙ all-append (take i ms) (take n (drop i ms))
+    at_end ∙ at_sum ms sums (i + n) through is within ∙ ap all_together (take-add i n ms) ∙ all-append join (take i ms) (take n (drop i ms))
     ∙ ap (λ (t : Totals). together t (all_together (take n (drop i ms)))) (sym before_is)
 
 -- the numbers that each of them has
@@ -168,9 +135,9 @@ eight_before ms sums i before limits is within at =
 
 -- one moment more
 
-pub sum_more : (ms : List Totals) (i : ℕ) (m so_far : Totals) → i < length ms → m ≡ get_or ms i m → so_far ≡ all_together (take i ms) → together so_far m ≡ all_together (take (i + 1) ms)
-sum_more ms i m so_far within at is =
-    ap (λ (t : Totals). together t m) is ∙ sym (all-push (take i ms) m) ∙ ap (λ (n : Totals). all_together (take i ms ++ n ∷ [])) at ∙ ap all_together (sym (take_more ms i m within))
+pub sum_more : MomentsJoinInAnyOrder → (ms : List Totals) (i : ℕ) (m so_far : Totals) → i < length ms → m ≡ get_or ms i m → so_far ≡ all_together (take i ms) → together so_far m ≡ all_together (take (i + 1) ms)
+sum_more join ms i m so_far within at is =
+    ap (λ (t : Totals). together t m) is ∙ sym (all-push join (take i ms) m) ∙ ap (λ (n : Totals). all_together (take i ms ++ n ∷ [])) at ∙ ap all_together (sym (take_more ms i m within))
 
 pub first_sums-more : (ms : List Totals) (n : ℕ) (sums : List Totals) (m : Totals) → sums ≡ first_sums ms n → m ≡ all_together (take n ms) → sums ++ m ∷ [] ≡ first_sums ms (n + 1)
 first_sums-more ms n sums m are is =
@@ -192,23 +159,23 @@ particles_more ms i m so_far within at is few =
 abbrev one : Particle → Totals
 one j = moment_of (j ∷ [])
 
-all_of_particles : (js : List Particle) → moment_of js ≡ all_together (map one js)
-all_of_particles [] = refl
-all_of_particles (j ∷ js) = moments_join (j ∷ []) js ∙ ap (together (one j)) (all_of_particles js)
+all_of_particles : MomentsAddUp → (js : List Particle) → moment_of js ≡ all_together (map one js)
+all_of_particles add [] = refl
+all_of_particles add (j ∷ js) = add (j ∷ []) js ∙ ap (together (one j)) (all_of_particles add js)
 
-count_of_particles : (js : List Particle) → particle_count (map one js) ≡ length js
-count_of_particles js = sym (counted (map one js)) ∙ ap (λ (t : Totals). t.count) (sym (all_of_particles js)) ∙ count_is js
+count_of_particles : MomentsAddUp → (js : List Particle) → particle_count (map one js) ≡ length js
+count_of_particles add js = sym (counted (map one js)) ∙ ap (λ (t : Totals). t.count) (sym (all_of_particles add js)) ∙ count_is js
 
-same_sums : (js : List Particle) → prefix_moments js ≡ prefix_sums (map one js)
-same_sums js =
-    let each : (k : ℕ) → moment_of (take k js) ≡ all_together (take k (map one js)) = λ k. all_of_particles (take k js) ∙ ap all_together (sym (take-map one k js)) in
+same_sums : MomentsAddUp → (js : List Particle) → prefix_moments js ≡ prefix_sums (map one js)
+same_sums add js =
+    let each : (k : ℕ) → moment_of (take k js) ≡ all_together (take k (map one js)) = λ k. all_of_particles add (take k js) ∙ ap all_together (sym (take-map one k js)) in
     (λ i. map (λ k. each k i) (range_with_len 0 (length js + 1))) ∙ ap (λ (n : ℕ). map (λ k. all_together (take k (map one js))) (range_with_len 0 (n + 1))) (sym (length-map js one))
 
 -- so the moments of the first of them are sums
-pub IsPrefix-of_particles : (js : List Particle) (sums : List Totals) → length js ≤ 65536 → All HasLimitedMoment js → sums ≡ prefix_moments js → IsPrefix sums
-IsPrefix-of_particles js sums few limits are =
-    let count = count_of_particles js in
+pub IsPrefix-of_particles : MomentsAddUp → (js : List Particle) (sums : List Totals) → length js ≤ 65536 → All HasLimitedMoment js → sums ≡ prefix_moments js → IsPrefix sums
+IsPrefix-of_particles add js sums few limits are =
+    let count = count_of_particles add js in
     let long = length-map js one in (
       map one js,
-      record { few = omega arith; few_particles = omega arith; limits = All-map IsTotals one js limits; summed = are ∙ same_sums js },
+      record { few = omega arith; few_particles = omega arith; limits = All-map IsTotals one js limits; summed = are ∙ same_sums add js },
     )

@@ -4,6 +4,7 @@ ghost use Rattle.pf_model.specs.Totals.{Totals, IsTotals};
 ghost use Rattle.pf_model.specs.Sums.{moment_of};
 ghost use Rattle.moments.specs.Prefix.{prefix_moments, HasLimitedMoment, all_together, prefix_sums, particle_count};
 
+use model_laws::{moments_add_up, moments_join_in_any_order};
 use pf_model::{Body, MOST_PARTICLES, Moment};
 use pf_num::OutOfMemory;
 use std::alloc::Global;
@@ -33,6 +34,7 @@ pub fn prefix_of(alloc: Global, bodies: &[Body]) -> Result<Prefix, OutOfMemory>
     requires { length bodies.now ≤ MOST_PARTICLES }
     ensures { IfOk result (λ p. p ≡ prefix_moments bodies.now) }
 {
+    moments_add_up();
     let mut moments = vec![in alloc; Moment::none(); bodies.len() + 1]?;
     fill(&mut moments, bodies);
     Ok(Prefix { moments })
@@ -57,6 +59,8 @@ impl Prefix {
         ensures moments { (ms : List Totals) → self.now ≡ prefix_sums ms → All IsTotals ms
             → result ≡ all_together (take len (drop first ms)) }
     {
+        moments_add_up();
+        moments_join_in_any_order();
         let before = self.moments[first as usize];
         let through = self.moments[(first + len) as usize];
         through.without(before)
@@ -67,6 +71,7 @@ impl Prefix {
         requires { length self.old ≡ length bodies.now + 1 }
         ensures { self.new ≡ prefix_moments bodies.now }
     {
+        moments_add_up();
         fill(&mut self.moments, bodies);
     }
 
@@ -87,6 +92,7 @@ fn fill(moments: &mut [Moment], bodies: &[Body])
     ensures value { moments.new ≡ prefix_moments bodies.now }
     ensures limits { All HasLimitedMoment bodies.now }
 {
+    moments_add_up();
     let mut so_far = Moment::none();
     moments[0] = so_far;
     for place in 0..bodies.len() {
@@ -102,6 +108,7 @@ fn fill_over(sums: &mut [Moment], moments: &[Moment])
     ensures value { sums.new ≡ prefix_sums moments.now }
     ensures limits { All IsTotals moments.now }
 {
+    moments_join_in_any_order();
     let mut so_far = Moment::none();
     sums[0] = so_far;
     for place in 0..moments.len() {

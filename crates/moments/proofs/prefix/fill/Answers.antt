@@ -28,7 +28,7 @@ loop-place-preserved c =
     let one = c.limited_moment.ensures in
     let within : place < length js = c.loop-place-test.true in
     let room = c.loop-place.auto.moments ∙ length-set c.args.moments.now 0 c.none-so_far.result ∙ c.requires.room in
-    let sum = c.merge-so_far.ensures ∙ moment_more js place body c.loop-place.so_far c.limited_moment.result within at before.so_far one.value in
+    let sum = c.merge-so_far.ensures ∙ moment_more c.moments_add_up.ensures js place body c.loop-place.so_far c.limited_moment.result within at before.so_far one.value in
     record {
       so_far = sum;
       limits = limits_more js place body c.limited_moment.result within at before.limits one.limits one.value;

@@ -30,7 +30,7 @@ loop-place-preserved c =
     let here = c.limited.ensures in
     let within : place < length ms = c.loop-place-test.true in
     let room = c.loop-place.auto.sums ∙ length-set c.args.sums.now 0 c.none-so_far.result ∙ c.requires.room in
-    let sum = c.merge-so_far.ensures ∙ ap (together c.loop-place.so_far) here.value ∙ sum_more ms place m c.loop-place.so_far within at before.so_far in
+    let sum = c.merge-so_far.ensures ∙ ap (together c.loop-place.so_far) here.value ∙ sum_more c.moments_join_in_any_order.ensures ms place m c.loop-place.so_far within at before.so_far in
     record {
       so_far = sum;
       limits = totals_more ms place m within at before.limits (subst IsTotals here.value here.limits);

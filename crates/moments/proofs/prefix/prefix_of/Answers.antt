@@ -10,4 +10,4 @@ invariant_of-result c =
     let new = ap (λ (ts : List Totals). length ts) c.fill.ensures.value ∙ prefix_length js in
     let len = c.in_ok-moments.ensures.len in
     let written = put_back c.in_ok-moments.moments.len c.in_ok-moments.moments.items c.fill.new.moments (omega arith) in
-    IsPrefix-of_particles js _ c.requires c.fill.ensures.limits (written ∙ c.fill.ensures.value)
+    IsPrefix-of_particles c.moments_add_up.ensures js _ c.requires c.fill.ensures.limits (written ∙ c.fill.ensures.value)

@@ -23,7 +23,7 @@ without-requires c =
       all_together (take c.args.len (drop c.args.first ms)),
       record {
         limits = part_limits ms c.args.first c.args.len is.few_particles is.limits;
-        makes = sum_makes ms sums c.args.first c.args.len _ _ is.summed inside c.index-through.ensures c.index-before.ensures;
+        makes = sum_makes c.moments_join_in_any_order.ensures ms sums c.args.first c.args.len _ _ is.summed inside c.index-through.ensures c.index-before.ensures;
       },
     )
 
@@ -39,15 +39,15 @@ returns c =
     let inside : first + len < length sums = (let same = ap (λ (ts : List Totals). length ts) c.self.view_is in let h = c.requires in omega arith) in
     let part = all_together (take len (drop first ms)) in
     let limits = part_limits ms first len is.few_particles is.limits in
-    let makes = sum_makes ms sums first len through before is.summed inside c.index-through.ensures c.index-before.ensures in
+    let makes = sum_makes c.moments_join_in_any_order.ensures ms sums first len through before is.summed inside c.index-through.ensures c.index-before.ensures in
     let rest : IsRest through before part = record { limits = limits; makes = makes } in
     let found = c.without.ensures part rest in
     let eight = eight_before ms sums first before is.limits is.summed (omega arith) c.index-before.ensures in
     record {
       bodies = λ js e.
-          let other = range_makes js sums first len through before (c.self.view_is ∙ e) inside c.index-through.ensures c.index-before.ensures in
+          let other = range_makes c.moments_add_up.ensures js sums first len through before (c.self.view_is ∙ e) inside c.index-through.ensures c.index-before.ensures in
           found ∙ cancel before part (moment_of (take len (drop first js))) eight limits.eight (eight_attributes (take len (drop first js))) limits.three (three_weighted (take len (drop first js))) (sym makes ∙ other);
       moments = λ ns e each.
-          let other = sum_makes ns sums first len through before (c.self.view_is ∙ e) inside c.index-through.ensures c.index-before.ensures in
+          let other = sum_makes c.moments_join_in_any_order.ensures ns sums first len through before (c.self.view_is ∙ e) inside c.index-through.ensures c.index-before.ensures in
           found ∙ cancel before part (all_together (take len (drop first ns))) eight limits.eight (eight_of_part ns first len each) limits.three (three_of_all (take len (drop first ns))) (sym makes ∙ other);
     }

@@ -22,4 +22,4 @@ invariant_of-self c =
     let room = c.requires in
     let whole = c.self.inside.moments.ok in
     let written = put_back c.self.inside.moments.len c.self.inside.moments.items c.fill.new.moments (omega arith) in
-    IsPrefix-of_particles js _ (omega arith) c.fill.ensures.limits (written ∙ c.fill.ensures.value)
+    IsPrefix-of_particles c.moments_add_up.ensures js _ (omega arith) c.fill.ensures.limits (written ∙ c.fill.ensures.value)
