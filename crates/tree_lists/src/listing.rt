@@ -92,7 +92,7 @@ fn entry_of(tree: &Tree, piece: Piece) -> Entry
     }
 }
 
-// The cell at a level of a tree's body at a place. The key that the tree keeps of it has the cell's own.
+// The cell at a level of the body at a place of a tree, by the key that the tree keeps of it.
 fn cell_at(tree: &Tree, place: usize, level: u32) -> Cell
     requires inside { place < length tree.now.built }
     requires level { level ≤ DEEPEST }
