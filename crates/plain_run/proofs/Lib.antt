@@ -7,8 +7,6 @@ mod TargetLemmas
 mod StepLemmas
 mod PairLemmas
 mod KeptLemmas
-mod MotionLemmas
-mod MoveLemmas
 mod ListingLemmas
 mod StopLemmas
 mod CountLemmas

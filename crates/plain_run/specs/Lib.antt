@@ -3,6 +3,5 @@ pub mod Boxes
 pub mod Targets
 pub mod Lists
 pub mod Forces
-pub mod Moves
 pub mod Runs
 pub mod Reaching

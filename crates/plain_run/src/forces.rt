@@ -18,8 +18,8 @@ use crate::seen::{exerted, received};
 use crate::targets::targets_of;
 use kern_meaning::{PairFault, Scratch, for_kernel, pair, slot};
 use kern_token::Name;
-use kern_tree::{Combine, Kind, parsed_kernels_keep_limits};
-use kern_types::{ForceVar, Typed, forces, kernel, slots};
+use kern_tree::{Combine, Kind};
+use kern_types::{ForceVar, Typed, forces, forces_and_slots_are_few, kernel, slots};
 use moments::item;
 use pf_geom::Edge;
 use pf_model::{Body, Entry, Item, Moment};
@@ -78,7 +78,7 @@ pub fn slow_forces(
     ensures no_fault { OnOk result (rules.force_fault edge t.now entries.now i.now ≡ None) }
     ensures fault { IfErr result (IsForceStop (rules.force_fault edge t.now entries.now i.now)) }
 {
-    parsed_kernels_keep_limits();
+    forces_and_slots_are_few();
     let _kernel = kernel(t);
     let mut scratch = for_kernel(alloc, t)?;
     let targets = targets_of(alloc, kernel(t).body.as_slice())?;

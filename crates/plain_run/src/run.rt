@@ -7,7 +7,6 @@ ghost use Rattle.plain_run.specs.Runs.{StopsAt, body_line_of};
 
 use crate::counts::rank_lines;
 use crate::domains::slow_owner;
-use crate::forced::Forced;
 use crate::kept::found;
 use crate::setup::RunSetup;
 use crate::state::{SlowState, after, start};
@@ -16,6 +15,7 @@ use dump_text::write_step;
 use pf_model::Body;
 use pf_num::OutOfMemory;
 use run_model::{BodyLine, Fault, Row, Sequence, StepText};
+use run_moves::Forced;
 use std::alloc::{AllocError, Global};
 
 // Where a run is after a step.

@@ -7,11 +7,8 @@ ghost use Rattle.plain_run.specs.Lists.{HaveOneOrder};
 ghost use Rattle.plain_run.specs.Runs.{StopsAt, build_fault, forces_and_kick_fault, later_fault};
 ghost use Rattle.plain_run.specs.Runs.{state_taken, forced_by};
 
-use crate::forced::Forced;
 use crate::forces::{ForceStop, slow_forces};
 use crate::listing::{list_for, lists_of, rank_count};
-use crate::motion::Motion;
-use crate::moves::{kick_again, moved};
 use crate::ordering::by_id;
 use crate::setup::RunSetup;
 use crate::stop::SlowStop;
@@ -19,6 +16,7 @@ use model_laws::{lists_are_short, orders_by_id_have_distinct_ids};
 use pf_model::{Body, Grid, Theta};
 use pf_num::OutOfMemory;
 use run_model::Fault;
+use run_moves::{Forced, Motion, kick_again, moved};
 use std::alloc::{AllocError, Global};
 use std::marker::Model;
 

@@ -1,5 +1,6 @@
 use pf_num::OutOfMemory;
 use run_model::Fault;
+use run_moves::MovesFault;
 use std::alloc::AllocError;
 
 /// Why a step has no text.
@@ -43,5 +44,19 @@ impl From<Fault> for SlowStop {
 
     fn from(numeric: Fault) -> SlowStop {
         SlowStop::Numeric(numeric)
+    }
+}
+
+impl From<MovesFault> for SlowStop {
+    ghost use Rattle.std.specs.Prelude.{◌≡◌};
+    ghost use Rattle.plain_run.specs.Runs.{of_moves};
+
+    ghost from_gives = { λ moves stop. stop ≡ of_moves moves };
+
+    fn from(moves: MovesFault) -> SlowStop {
+        match moves {
+            MovesFault::Numeric(numeric) => SlowStop::Numeric(numeric),
+            MovesFault::Memory => SlowStop::Memory,
+        }
     }
 }

@@ -1,8 +1,6 @@
 pub mod BuildLemmas
 pub mod KeptLemmas
 pub mod DealLemmas
-pub mod MotionLemmas
-pub mod MoveLemmas
 pub mod NowLemmas
 pub mod OrderLemmas
 pub mod FaultLemmas

@@ -32,11 +32,11 @@ use Rattle.rank_step.specs.declared.course.Course.{Course}
 use Rattle.rank_step.specs.declared.fault.StepFault.{StepFault}
 use Rattle.rank_step.specs.declared.fault.StepFault.TheVariants as faults
 use Rattle.rank_step.specs.declared.last_build.LastBuild.{LastBuild}
-use Rattle.rank_step.specs.declared.motion.Motion.{Motion}
+use Rattle.run_moves.specs.declared.motion.Motion.{Motion}
 use Rattle.rank_step.specs.Answers.{StopsAt, StopsBy}
 use Rattle.rank_step.specs.Build.{AreListsOf, BuildsBy, IsTooMany}
 use Rattle.rank_step.specs.LastBuild.{AreKeptSince, IsBuildOf, IsLastBefore, IsLastFor, built_from, owners_of}
-use Rattle.rank_step.specs.Moves.{MovesBy}
+use Rattle.run_moves.specs.Moves.{MovesBy}
 use Rattle.rank_step.specs.Ranks.{HaveTogether, as_now, held_now, with_owners}
 use Rattle.rank_step.specs.Trees.{BeginAsKept}
 use Rattle.multisection.specs.Regions.{Regions, regions_of}

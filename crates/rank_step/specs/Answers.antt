@@ -2,6 +2,8 @@
 use Rattle.std.specs.Prelude.{◌≡◌, ℕ, Option, Some}
 use Rattle.force_phase.specs.declared.phase.PhaseFault.{PhaseFault}
 use Rattle.force_phase.specs.declared.phase.PhaseFault.TheVariants as phase
+use Rattle.run_moves.specs.declared.fault.MovesFault.{MovesFault}
+use Rattle.run_moves.specs.declared.fault.MovesFault.TheVariants as moves
 use Rattle.run_model.specs.Setup.{Setup}
 use Rattle.run_model.specs.Run.{Stop, first_fault}
 use Rattle.run_model.specs.Run as stop
@@ -22,3 +24,8 @@ StopsBy u s fault = StopsAt (first_fault u s) fault
 abbrev pub of_phase : PhaseFault → StepFault
 of_phase (phase.Numeric fault) = faults.Numeric fault
 of_phase phase.Memory = faults.Memory
+
+-- and that of the moves
+abbrev pub of_moves : MovesFault → StepFault
+of_moves (moves.Numeric fault) = faults.Numeric fault
+of_moves moves.Memory = faults.Memory

@@ -2,7 +2,6 @@ pub mod Ranks
 pub mod Build
 pub mod Trees
 pub mod Answers
-pub mod Moves
 pub mod LastBuild
 pub mod Taken
 pub mod Told

@@ -14,16 +14,14 @@ ghost use Rattle.rank_step.specs.Told.{Reaches, groups_told};
 ghost use Rattle.rank_step.specs.World.{Follows, IsBefore, IsSound};
 
 use crate::fault::StepFault;
-use crate::forced::Forced;
 use crate::forces::{Taken, build_and_take, take_again};
 use crate::held_now::held_now;
 use crate::last_build::LastBuild;
-use crate::motion::Motion;
-use crate::moves::{kick_again, moved};
 use exchange::RankState;
 use kern_types::Typed;
 use pf_io::Gate;
 use pf_model::{Body, Grid, MOST_GROUP, Theta};
+use run_moves::{Forced, Motion, kick_again, moved};
 use std::alloc::{AllocError, Global};
 use std::sync::Wait;
 use std::thread::Threads;

@@ -1,6 +1,7 @@
 use force_phase::PhaseFault;
 use pf_num::OutOfMemory;
 use run_model::Fault;
+use run_moves::MovesFault;
 use std::alloc::AllocError;
 
 /// Why a step has no text.
@@ -57,6 +58,20 @@ impl From<PhaseFault> for StepFault {
         match phase {
             PhaseFault::Numeric(numeric) => StepFault::Numeric(numeric),
             PhaseFault::Memory => StepFault::Memory,
+        }
+    }
+}
+
+impl From<MovesFault> for StepFault {
+    ghost use Rattle.std.specs.Prelude.{◌≡◌};
+    ghost use Rattle.rank_step.specs.Answers.{of_moves};
+
+    ghost from_gives = { λ moves fault. fault ≡ of_moves moves };
+
+    fn from(moves: MovesFault) -> StepFault {
+        match moves {
+            MovesFault::Numeric(numeric) => StepFault::Numeric(numeric),
+            MovesFault::Memory => StepFault::Memory,
         }
     }
 }

@@ -2,9 +2,9 @@ ghost use Rattle.std.specs.Prelude.{◌≡◌, IfOk, map};
 ghost use Rattle.std.specs.List.{zip};
 ghost use Rattle.rank_step.specs.Told.{row_with, text_with};
 
-use crate::forced::Forced;
 use pf_model::Body;
 use run_model::{BodyLine, RankLine, Row, Sequence, StepText};
+use run_moves::Forced;
 use std::alloc::{AllocError, Global};
 
 /// What a step tells of ranks with these counts, and of particles by ascending id, which had these owners at the last

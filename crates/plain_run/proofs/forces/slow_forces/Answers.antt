@@ -1,13 +1,14 @@
-use Rattle.std.proofs.Common.{Option, sym, ◌∙◌, subst}
+use Rattle.std.proofs.Common.{Option, sym, ◌∙◌, subst, arith}
 use Rattle.run_model.specs.declared.fault.What.{What}
 use Rattle.run_model.specs.Force.{force_row}
 use Rattle.plain_run.specs.Forces.{IsForceStop}
-use Rattle.plain_run.proofs.MotionLemmas.{forces_are_few}
 use Rattle.plain_run.proofs.PairLemmas.{pair_first, then_sums}
 use Rattle.plain_run.proofs.forces.slow_forces.Goals as goal
 
 pub row_of-requires-clause-few : goal.row_of-requires-clause-few
-row_of-requires-clause-few c = forces_are_few c.args.t.now (c.parsed_kernels_keep_limits.ensures c.args.t.now c.kernel-kernel.ensures.parsed)
+row_of-requires-clause-few c =
+    let few = c.forces_and_slots_are_few.ensures c.args.t.now c.kernel-kernel.ensures.parsed in
+    omega (arith, few)
 
 pub returns-in-Some-clause-fault : goal.returns-in-Some-clause-fault
 returns-in-Some-clause-fault c = pair_first c.args.edge c.args.t.now c.args.entries.now c.args.i.now c.in-Some.what (sym c.in-Some.is ∙ c.first_pair_fault.ensures.value)

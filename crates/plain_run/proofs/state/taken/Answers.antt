@@ -3,7 +3,7 @@ use Rattle.pf_model.specs.Particle.{Particle}
 use Rattle.run_model.specs.Setup.{Setup}
 use Rattle.run_model.specs.Force.{acc_place}
 use Rattle.run_model.specs.Run.{WithForces, with_forces, kicked_again}
-use Rattle.plain_run.specs.Moves.{MovesBy}
+use Rattle.run_moves.specs.Moves.{MovesBy}
 use Rattle.plain_run.specs.Runs.{IsStill}
 use Rattle.plain_run.proofs.StillLemmas.{still_taken, written}
 use Rattle.plain_run.proofs.state.taken.Goals as goal

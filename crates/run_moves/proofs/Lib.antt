@@ -1,0 +1,2 @@
+mod MotionLemmas
+mod MoveLemmas
