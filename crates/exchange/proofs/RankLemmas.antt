@@ -1,8 +1,8 @@
 -- The particles of all ranks, before and after they change ranks.
-use Rattle.std.proofs.Common.{◌≡◌, ℕ, zero, suc, ◌+◌, ◌<◌, ◌≤◌, Bool, true, not, List, [], ◌∷◌, ◌++◌, length, get_or, map, nat_eq, inl, inr, refl, sym, ◌∙◌, ap, subst, arith}
+use Rattle.std.proofs.Common.{◌≡◌, ℕ, zero, suc, ◌+◌, ◌<◌, ◌≤◌, Bool, not, List, [], ◌∷◌, ◌++◌, length, get_or, map, nat_eq, refl, sym, ◌∙◌, ap, subst, arith}
 use Rattle.std.specs.List.{filter, flat_map, range_with_len, Contains}
 use Rattle.std.specs.List.Sorted.{IsPermutation}
-use Rattle.std.proofs.lemmas.Bool.{cases_Bool, cond-true, cond-false, cond_both, eqb-true, eq-eqb, ne_eqb}
+use Rattle.std.proofs.lemmas.Bool.{cond-true, cond-false, eqb-true, eq-eqb, ne_eqb}
 use Rattle.std.proofs.lemmas.List.Folds.{flat_map-map}
 use Rattle.std.proofs.lemmas.List.Elements.{filter-append}
 use Rattle.std.proofs.lemmas.List.Sums.{count_by-le-length, length-filter}
@@ -14,7 +14,7 @@ use Rattle.pf_model.specs.Division.{rank_count}
 use Rattle.pf_model.specs.Domains.{Multisection, owner_by}
 use Rattle.exchange.specs.States.{Holding, Package, owned_by, left_with, parcel_for, joined}
 use Rattle.exchange.specs.ExchangeLaws.{AreOfAllRanks, particles_held, parcels_to, EachRankHasItsOwn, EachParticleIsWithItsOwner}
-use Rattle.order_laws.specs.OrderLaws.{PartsKeepPermutations}
+use Rattle.order_laws.specs.OrderLaws.{PartsKeepPermutations, TestsKeepWhatPasses}
 
 filter-flat_map : {E F : Type 0} (p : F → Bool) (f : E → List F) (xs : List E) → filter p (flat_map f xs) ≡ flat_map (λ x. filter p (f x)) xs
 filter-flat_map p f [] = refl
@@ -95,39 +95,14 @@ each_rank_has_its_own ignore one some of_states of_parcels s hs h parcels ranks 
       ordered = sym (one owned all apart same);
     }
 
--- what a test keeps
-longer : {E : Type 0} (y : E) (ys : List E) (x : E) → Contains ys x → Contains (y ∷ ys) x
-longer y ys x (k, within, is) = (suc k, omega arith, is)
-
-head_or_rest : {E : Type 0} (p : E → Bool) (y : E) (ys zs : List E) (x : E) → p y ≡ true → (Contains zs x → Contains ys x × (p x ≡ true)) → Contains (y ∷ zs) x → Contains (y ∷ ys) x × (p x ≡ true)
-head_or_rest {E} p y ys zs x passes rest (zero, within, is) = ((0, omega arith, is), subst (λ (z : E). p z ≡ true) is passes)
-head_or_rest p y ys zs x passes rest (suc k, within, is) = (let both = rest (k, omega arith, is) in (longer y ys x both.0, both.1))
-
-kept_from : {E : Type 0} (p : E → Bool) (xs : List E) (x : E) → Contains (filter p xs) x → Contains xs x × (p x ≡ true)
-kept_from p [] x (k, within, is) = absurd (omega arith)
-kept_from {E} p (y ∷ ys) x there =
-    elim (cases_Bool (p y)) [
-      | inl kept ↦ head_or_rest p y ys (filter p ys) x kept (kept_from p ys x) (subst (λ (l : List E). Contains l x) (cond-true (p y) (y ∷ filter p ys) (filter p ys) kept) there)
-      | inr left ↦ (let both = kept_from p ys x (subst (λ (l : List E). Contains l x) (cond-false (p y) (y ∷ filter p ys) (filter p ys) left) there) in (longer y ys x both.0, both.1))
-    ]
-
-kept_to : {E : Type 0} (p : E → Bool) (xs : List E) (x : E) → Contains xs x → p x ≡ true → Contains (filter p xs) x
-kept_to p [] x (k, within, is) e = absurd (omega arith)
-kept_to {E} p (y ∷ ys) x (zero, within, is) e =
-    let passes : p y ≡ true = subst (λ (z : E). p z ≡ true) (sym is) e in
-    subst (λ (l : List E). Contains l x) (sym (cond-true (p y) (y ∷ filter p ys) (filter p ys) passes)) (0, omega arith, is)
-kept_to {E} p (y ∷ ys) x (suc k, within, is) e =
-    let rest : Contains (filter p ys) x = kept_to p ys x (k, omega arith, is) e in
-    cond_both (p y) (y ∷ filter p ys) (filter p ys) (λ l. Contains l x) (λ _. longer y (filter p ys) x rest) (λ _. rest)
-
-pub each_particle_is_with_its_owner : OrdersByIdHaveDistinctIds → OrdersByIdKeepParticles → SomeHaveDistinctIds → EachParticleIsWithItsOwner
-each_particle_is_with_its_owner distinct keep some s js rank apart =
+pub each_particle_is_with_its_owner : OrdersByIdHaveDistinctIds → OrdersByIdKeepParticles → SomeHaveDistinctIds → TestsKeepWhatPasses Particle → EachParticleIsWithItsOwner
+each_particle_is_with_its_owner distinct keep some tests s js rank apart =
     let test = λ (j : Particle). nat_eq (owner_by s j.at) rank in
     let owned : List Particle = owned_by s rank js in (
       distinct owned,
       λ j.
           let kept = keep owned j (some test js apart) in (
-            λ there. (let both = kept_from test js j (kept.0 there) in (both.0, eqb-true (owner_by s j.at) rank both.1)),
-            λ both. kept.1 (kept_to test js j both.0 (eq-eqb (owner_by s j.at) rank both.1)),
+            λ there. (let both = (tests test js j).0 (kept.0 there) in (both.0, eqb-true (owner_by s j.at) rank both.1)),
+            λ both. kept.1 ((tests test js j).1 (both.0, eq-eqb (owner_by s j.at) rank both.1)),
           ),
     )

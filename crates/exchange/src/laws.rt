@@ -10,7 +10,7 @@ use model_laws::{
     orders_by_id_have_distinct_ids, orders_by_id_keep_particles, owners_by_cuts_are_ranks,
     some_have_distinct_ids,
 };
-use order_laws::{parts_by_key_are_all, parts_keep_permutations};
+use order_laws::{parts_by_key_are_all, parts_keep_permutations, tests_keep_what_passes};
 use pf_model::Body;
 
 /// After all ranks left and settled, each has exactly what it owns of all particles.
@@ -31,6 +31,7 @@ pub fn each_particle_is_with_its_owner()
     orders_by_id_have_distinct_ids();
     orders_by_id_keep_particles();
     some_have_distinct_ids();
+    tests_keep_what_passes::<Body>();
 }
 
 /// And all ranks together have all particles, each once.
