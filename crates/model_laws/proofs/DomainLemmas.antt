@@ -11,7 +11,7 @@ use Rattle.pf_geom.specs.Bounds.{Bounds, IsBox, IsInBox}
 use Rattle.pf_model.specs.Particle.{Particle}
 use Rattle.pf_model.specs.Division.{Division}
 use Rattle.pf_model.specs.Domains.{Multisection, piece_at, cuts_in_slab, cuts_in_column, AreCuts, IsMultisection, slab_of, slab_start, slab_end, owner_by, box_by, x_cuts, in_slab, y_cuts, in_column, z_cuts, cuts_for, owner, domain_box}
-use Rattle.model_laws.specs.DomainLaws.{CutsAscend, BoxesByCutsHoldWhatIsOwned, DomainBoxesHoldWhatIsOwned}
+use Rattle.model_laws.specs.DomainLaws.{CutsAreOfSlabsAndColumns, CutsAscend, BoxesByCutsHoldWhatIsOwned, DomainBoxesHoldWhatIsOwned}
 use Rattle.model_laws.proofs.RankLemmas.{length-cuts_of, slab_below}
 use Rattle.model_laws.proofs.CutLemmas.{AreCuts-cuts_of, IsSlab-slab_of, slab_from_IsSlab}
 
@@ -69,6 +69,9 @@ column_cuts g js ix iy in_x in_y =
     piece-joined slab (g.ny * len) (columns_length g js) 0 g.nx ix in_x ∙ ap slab (let e : 0 + ix ≡ ix = omega arith in e) in
     sym (piece-piece len g.ny all ix iy in_y) ∙ ap (λ (l : List ℕ). piece_at len l iy) one
     ∙ piece-joined (z_cuts g js ix) len (λ k. length-cuts_of (λ p. p.z) (in_column g js ix k) g.nz) 0 g.ny iy in_y ∙ ap (z_cuts g js ix) (let e : 0 + iy ≡ iy = omega arith in e)
+
+pub cuts_are_of_slabs_and_columns : CutsAreOfSlabsAndColumns
+cuts_are_of_slabs_and_columns g js = (slab_cuts g js, column_cuts g js)
 
 abbrev Places : List Particle → Type 0
 Places js = All (λ j. IsPosition j.at) js

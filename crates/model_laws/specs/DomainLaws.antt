@@ -10,6 +10,7 @@ use Rattle.pf_model.specs.Criterion.{Criterion}
 use Rattle.pf_model.specs.Division.{Division, IsDivision, rank_count}
 use Rattle.pf_model.specs.Domains.{Multisection, IsMultisection, owner_by, box_by, cuts_for, owner, particles_of}
 use Rattle.pf_model.specs.Domains.{domain_box, comes_first, coordinates_of, AreInOrderAlong, cuts_of}
+use Rattle.pf_model.specs.Domains.{cuts_in_slab, cuts_in_column, y_cuts, z_cuts}
 use Rattle.order_laws.specs.Order.{in_order_once}
 use Rattle.pf_model.specs.EssentialTree.{essential_tree, particles_of_ranks}
 
@@ -25,6 +26,13 @@ OwnersByCutsAreRanks = (s : Multisection) (p : Position) → IsMultisection s �
 abbrev pub CutsAscend : Type 0
 CutsAscend =
     (g : Division) (js : List Particle) → IsDivision g → All (λ j. IsPosition j.at) js → IsMultisection (cuts_for g js)
+
+-- and piece by piece they are those of each slab along y, and of each column along z
+abbrev pub CutsAreOfSlabsAndColumns : Type 0
+CutsAreOfSlabsAndColumns =
+    (g : Division) (js : List Particle) →
+    ((ix : ℕ) → ix < g.nx → cuts_in_slab (cuts_for g js) ix ≡ y_cuts g js ix) ×
+    ((ix iy : ℕ) → ix < g.nx → iy < g.ny → cuts_in_column (cuts_for g js) ix iy ≡ z_cuts g js ix iy)
 
 -- where a rank owns a position, its domain box by the cuts is a box, and holds exactly what the rank owns
 abbrev pub BoxesByCutsHoldWhatIsOwned : Type 0

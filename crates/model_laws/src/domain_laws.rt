@@ -6,7 +6,7 @@ ghost use Rattle.model_laws.specs.DomainLaws.{LoneRanksHaveAll, CutsAscend, Boxe
 ghost use Rattle.model_laws.specs.DomainLaws.{DomainBoxesHoldWhatIsOwned, CutsIgnoreOrder, DomainsIgnoreOrder};
 ghost use Rattle.model_laws.specs.DomainLaws.{EssentialTreesIgnoreOrder, RanksHaveTheirOwn, RanksInTurnHaveAll};
 ghost use Rattle.model_laws.specs.DomainLaws.{RanksByIdHaveAll, OrdersAlongAreOne, CoordinatesAscend};
-ghost use Rattle.model_laws.specs.DomainLaws.{CutsAlongIgnoreOrder};
+ghost use Rattle.model_laws.specs.DomainLaws.{CutsAlongIgnoreOrder, CutsAreOfSlabsAndColumns};
 
 use crate::id_laws::orders_by_id_have_all;
 
@@ -38,6 +38,11 @@ pub fn lone_ranks_have_all()
 /// The cuts that particles make ascend.
 pub fn cuts_ascend()
     ensures { CutsAscend }
+{}
+
+/// The cuts that particles make are those of each slab along y, and of each column along z.
+pub fn cuts_are_of_slabs_and_columns()
+    ensures { CutsAreOfSlabsAndColumns }
 {}
 
 /// By the cuts of a multisection the box of a rank holds exactly what the rank owns.

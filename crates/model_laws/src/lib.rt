@@ -14,10 +14,10 @@ mod sufficiency_laws;
 
 pub use domain_laws::{
     all_ranks_have_all, boxes_by_cuts_hold_what_is_owned, coordinates_ascend,
-    cuts_along_ignore_order, cuts_ascend, cuts_ignore_order, domain_boxes_hold_what_is_owned,
-    domains_ignore_order, essential_trees_ignore_order, lone_ranks_have_all, one_rank_has_its_own,
-    orders_along_are_one, owners_are_ranks, owners_by_cuts_are_ranks, ranks_by_id_have_all,
-    ranks_have_their_own, ranks_in_turn_have_all,
+    cuts_along_ignore_order, cuts_are_of_slabs_and_columns, cuts_ascend, cuts_ignore_order,
+    domain_boxes_hold_what_is_owned, domains_ignore_order, essential_trees_ignore_order,
+    lone_ranks_have_all, one_rank_has_its_own, orders_along_are_one, owners_are_ranks,
+    owners_by_cuts_are_ranks, ranks_by_id_have_all, ranks_have_their_own, ranks_in_turn_have_all,
 };
 pub use group_laws::{
     boxes_are_least, boxes_ignore_order, each_is_in_one_group, group_cells_are_ordered,
