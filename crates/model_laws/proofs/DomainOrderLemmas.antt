@@ -9,6 +9,7 @@ use Rattle.std.proofs.lemmas.Map.Views.{Contains-from_any}
 use Rattle.pf_geom.specs.Position.{Position}
 use Rattle.pf_geom.specs.Bounds.{Bounds}
 use Rattle.order_laws.specs.Order.{in_order_once}
+use Rattle.order_laws.specs.OrderLaws.{ListsInOrderAreOne}
 use Rattle.pf_model.specs.declared.entry.Entry.{Entry}
 use Rattle.pf_model.specs.Particle.{Particle}
 use Rattle.pf_model.specs.Particles.{HaveDistinctIds}
@@ -19,7 +20,7 @@ use Rattle.pf_model.specs.EssentialTree.{tree_for, essential_tree}
 use Rattle.model_laws.specs.DomainLaws.{OrdersAlongAreOne, CutsAlongIgnoreOrder, CutsIgnoreOrder, DomainsIgnoreOrder, EssentialTreesIgnoreOrder, RanksHaveTheirOwn}
 use Rattle.order_laws.proofs.OrderLemmas.{IsConnected, IsAscending-in_order, in_from_in_order, in_order_from_in, same_ascending}
 use Rattle.order_laws.proofs.PermutationLemmas.{IsPermutation-filter, either_filter}
-use Rattle.order_laws.proofs.RisingLemmas.{permuted_in, lists_in_order_are_one}
+use Rattle.order_laws.proofs.RisingLemmas.{permuted_in}
 use Rattle.pf_model.proofs.EntryLemmas.{pair-connected, same_from_id}
 use Rattle.model_laws.proofs.ListLemmas.{list-same}
 use Rattle.model_laws.proofs.CutLemmas.{comes_first-strict}
@@ -48,10 +49,10 @@ cuts_alike along js ks m distinct h =
 pub cuts_along_ignore_order : CutsAlongIgnoreOrder
 cuts_along_ignore_order = cuts_alike
 
-pub orders_along_are_one : OrdersAlongAreOne
-orders_along_are_one along js ks h ordered =
+pub orders_along_are_one : ListsInOrderAreOne Particle → OrdersAlongAreOne
+orders_along_are_one law along js ks h ordered =
     let strict = comes_first-strict along in
-    lists_in_order_are_one (comes_first along) js ks (record { irreflexive = strict.irreflexive; transitive = strict.transitive }) h ordered
+    law (comes_first along) js ks (record { irreflexive = strict.irreflexive; transitive = strict.transitive }) h ordered
 
 -- what a test keeps of both, where the tests are one
 filtered_alike : (test other : Particle → Bool) (js ks : List Particle) → ((j : Particle) → test j ≡ other j) → IsPermutation js ks → IsPermutation (filter test js) (filter other ks)

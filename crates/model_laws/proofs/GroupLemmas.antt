@@ -8,12 +8,14 @@ use Rattle.pf_geom.specs.Position.{Position}
 use Rattle.pf_geom.specs.Octant.{Octant, cell_at, ancestor_at, IsIn}
 use Rattle.pf_geom.specs.CellLaws.{CellsOfAPositionNest, PositionsShareLowerCells}
 use Rattle.order_laws.specs.Order.{least_below}
+use Rattle.order_laws.specs.OrderLaws.{RisingListsAreOne}
+use Rattle.std.specs.List.{AllPairs, Contains}
 use Rattle.pf_model.specs.Particle.{Particle}
 use Rattle.pf_model.specs.Group.{particles_in, group_level, group_cell, has_lower_corner, group_cells}
 use Rattle.model_laws.specs.GroupLaws.{IsGroupLevel, GroupLevelsAreLeast, PositionsShareTheirGroup, MembersShareTheirGroup, AreGroupCells, GroupCellsAreOrdered, EachIsInOneGroup}
 use Rattle.order_laws.proofs.LeastLemmas.{IsLeast, IsLeast-least_below}
-use Rattle.order_laws.proofs.OrderLemmas.{In, IsStrict, IsConnected, IsAscending, IsAscending-in_order, in_from_in_order, in_order_from_in, same_ascending}
-use Rattle.order_laws.proofs.ElementLemmas.{in_from_contains, contains_from_in, before_at, ascending_from_pairs, one_place}
+use Rattle.order_laws.proofs.OrderLemmas.{In, IsStrict, IsConnected, IsAscending, IsAscending-in_order, in_from_in_order, in_order_from_in}
+use Rattle.order_laws.proofs.ElementLemmas.{in_from_contains, contains_from_in, before_at, one_place}
 use Rattle.pf_model.proofs.EntryLemmas.{same_cell}
 use Rattle.pf_model.proofs.GroupLemmas.{is_few_at, level_from_none_few, level_from_few}
 use Rattle.model_laws.proofs.MemberLemmas.{in_cell, cell_has}
@@ -180,18 +182,23 @@ AreGroupCells-group_cells nest share limit own = record {
       (found.0, contains_from_in own found.0 found.1, found.2);
 }
 
-same_cells : (limit : ℕ) (own : List Particle) (cs ds : List Octant) → AreGroupCells limit own cs → AreGroupCells limit own ds → cs ≡ ds
-same_cells limit own cs ds a b =
-    let P : Octant → List Octant → Type 0 = λ c l. In c l in
-    same_ascending has_lower_corner has_lower_corner-strict cs ds
-    (ascending_from_pairs has_lower_corner cs (λ i j d less within. search (rules, a.ordered i j d less within)))
-    (ascending_from_pairs has_lower_corner ds (λ i j d less within. search (rules, b.ordered i j d less within)))
-    (λ c h. let found = a.sound c (contains_from_in cs c h) in subst (λ (o : Octant). P o ds) (sym found.2) (in_from_contains ds (group_cell limit own found.0.at) (b.complete found.0 found.1)))
-    (λ c h. let found = b.sound c (contains_from_in ds c h) in subst (λ (o : Octant). P o cs) (sym found.2) (in_from_contains cs (group_cell limit own found.0.at) (a.complete found.0 found.1)))
+-- the corners of group cells rise
+corners-rise : (limit : ℕ) (own : List Particle) (cells : List Octant) → AreGroupCells limit own cells → AllPairs (λ c d. corner_key c < corner_key d) cells
+corners-rise limit own cells are i j d less within = ltb-true (corner_key (get_or cells i d)) (corner_key (get_or cells j d)) (are.ordered i j d less within)
 
-pub group_cells_are_ordered : CellsOfAPositionNest → PositionsShareLowerCells → GroupCellsAreOrdered
-group_cells_are_ordered nest share limit own cells = (
-  λ h. same_cells limit own cells (group_cells limit own) h (AreGroupCells-group_cells nest share limit own),
+-- a cell of one list stands in the other
+also_there : (limit : ℕ) (own : List Particle) (cs ds : List Octant) → AreGroupCells limit own cs → AreGroupCells limit own ds → (c : Octant) → Contains cs c → Contains ds c
+also_there limit own cs ds a b c h =
+    let found = a.sound c h in
+    subst (Contains ds) (sym found.2) (b.complete found.0 found.1)
+
+same_cells : RisingListsAreOne Octant → (limit : ℕ) (own : List Particle) (cs ds : List Octant) → AreGroupCells limit own cs → AreGroupCells limit own ds → cs ≡ ds
+same_cells rising limit own cs ds a b =
+    rising corner_key cs ds (corners-rise limit own cs a) (corners-rise limit own ds b) (λ c. (also_there limit own cs ds a b c, also_there limit own ds cs b a c))
+
+pub group_cells_are_ordered : RisingListsAreOne Octant → CellsOfAPositionNest → PositionsShareLowerCells → GroupCellsAreOrdered
+group_cells_are_ordered rising nest share limit own cells = (
+  λ h. same_cells rising limit own cells (group_cells limit own) h (AreGroupCells-group_cells nest share limit own),
   λ e. subst (AreGroupCells limit own) (sym e) (AreGroupCells-group_cells nest share limit own),
 )
 

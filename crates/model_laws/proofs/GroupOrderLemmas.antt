@@ -8,15 +8,15 @@ use Rattle.std.proofs.lemmas.List.Elements.{All-contains}
 use Rattle.pf_geom.specs.Position.{Position, IsPosition}
 use Rattle.pf_geom.specs.Key.{morton_key}
 use Rattle.pf_geom.specs.Octant.{Octant, cell_at, IsIn}
-use Rattle.pf_geom.specs.CellLaws.{CellsOfAPositionNest, PositionsShareLowerCells, KeysAreDistinct}
+use Rattle.pf_geom.specs.CellLaws.{KeysAreDistinct}
 use Rattle.pf_model.specs.Particle.{Particle}
 use Rattle.pf_model.specs.Interaction.{is_cell}
 use Rattle.pf_model.specs.Group.{particles_in, group_level, group_cell, group_of, group_cells}
-use Rattle.model_laws.specs.GroupLaws.{GroupsIgnoreOrder, GroupsOfOneAreOnePlace}
+use Rattle.model_laws.specs.GroupLaws.{GroupCellsAreOrdered, GroupsIgnoreOrder, GroupsOfOneAreOnePlace}
 use Rattle.order_laws.proofs.PermutationLemmas.{IsPermutation-filter}
 use Rattle.order_laws.proofs.ElementLemmas.{only_element, all_from_contains, some_from_contains}
 use Rattle.model_laws.proofs.MemberLemmas.{in_cell, cell_has}
-use Rattle.model_laws.proofs.GroupLemmas.{group_level-is, group_levels_are_least, group_cells_are_ordered}
+use Rattle.model_laws.proofs.GroupLemmas.{group_level-is, group_levels_are_least}
 use Rattle.model_laws.proofs.BoxLemmas.{box_at_one_place}
 
 -- the same particles in a cell
@@ -38,9 +38,8 @@ level_permuted limit js ks h p =
 cell_permuted : (limit : ℕ) (js ks : List Particle) → IsPermutation js ks → (p : Position) → group_cell limit js p ≡ group_cell limit ks p
 cell_permuted limit js ks h p = ap (cell_at p) (level_permuted limit js ks h p)
 
-pub groups_ignore_order : CellsOfAPositionNest → PositionsShareLowerCells → GroupsIgnoreOrder
-groups_ignore_order nest share limit js ks h =
-    let law = group_cells_are_ordered nest share in
+pub groups_ignore_order : GroupCellsAreOrdered → GroupsIgnoreOrder
+groups_ignore_order law limit js ks h =
     let are = (law limit js (group_cells limit js)).1 refl in
     let back = IsPermutation-sym js ks h in
     let P : Octant → Type 0 = λ c. Contains (group_cells limit js) c in (

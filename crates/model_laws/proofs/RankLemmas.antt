@@ -2,7 +2,7 @@
 use Rattle.std.proofs.Common.{◌≡◌, ℕ, ◌+◌, ◌-◌, ◌*◌, ◌<◌, ◌≤◌, Bool, true, false, ◌||◌, List, [], ◌∷◌, length, drop, nat_eq, refl, sym, ◌∙◌, ap, arith}
 use Rattle.std.specs.Prelude.{nat_le}
 use Rattle.std.specs.List.{filter, flat_map, range_with_len, list_any, Contains}
-use Rattle.std.proofs.lemmas.List.Sorted.{IsPermutation-trans}
+use Rattle.std.proofs.lemmas.List.Sorted.{IsPermutation-refl, IsPermutation-trans}
 use Rattle.std.proofs.lemmas.Bool.{cond-true}
 use Rattle.std.proofs.lemmas.Nat.{mul-add-lt}
 use Rattle.std.proofs.lemmas.Cmp.{nat_eq_equiv}
@@ -12,14 +12,13 @@ use Rattle.std.proofs.lemmas.List.FromFn.{length-map-range_with_len}
 use Rattle.std.proofs.lemmas.List.Sums.{count_by-le-length}
 use Rattle.std.proofs.lemmas.Map.Views.{list_any-from_Contains}
 use Rattle.pf_geom.specs.Position.{Position}
+use Rattle.order_laws.specs.OrderLaws.{PartsByKeyAreAll, PartsKeepPermutations}
 use Rattle.pf_model.specs.Particle.{Particle}
 use Rattle.pf_model.specs.Division.{Division, IsDivision, rank_count}
 use Rattle.pf_model.specs.Domains.{Multisection, piece_at, cuts_in_slab, cuts_in_column, cut_before, cuts_of, slab_of, owner_by, cuts_for, owner, particles_of}
 use Rattle.pf_model.specs.Particles.{by_id}
 use Rattle.model_laws.specs.DomainLaws.{OwnersAreRanks, OwnersByCutsAreRanks, OneRankHasItsOwn, AllRanksHaveAll, LoneRanksHaveAll, RanksInTurnHaveAll, RanksByIdHaveAll}
 use Rattle.model_laws.specs.IdLaws.{OrdersByIdHaveAll}
-use Rattle.order_laws.proofs.RisingLemmas.{parts_by_key_are_all}
-use Rattle.order_laws.proofs.PermutationLemmas.{each_permutes}
 use Rattle.model_laws.proofs.ReuseLemmas.{some_have_distinct_ids}
 
 pub length-cuts_of : (along : Position → ℕ) (js : List Particle) (m : ℕ) → length (cuts_of along js m) ≡ m - 1
@@ -73,16 +72,16 @@ pub all_ranks : AllRanksHaveAll
 all_ranks g js ranks h whole =
     filter_all (λ j. list_any (nat_eq (owner g js j.at)) ranks) (λ j. list_any-from_Contains nat_eq_equiv (owner g js j.at) ranks (whole (owner g js j.at) (owners_are_ranks g js j.at h))) js
 
-pub ranks_in_turn_have_all : RanksInTurnHaveAll
-ranks_in_turn_have_all g js division = parts_by_key_are_all (λ (j : Particle). owner g js j.at) (rank_count g) js (λ j. owners_are_ranks g js j.at division)
+pub ranks_in_turn_have_all : PartsByKeyAreAll Particle → RanksInTurnHaveAll
+ranks_in_turn_have_all law g js division = law (λ (j : Particle). owner g js j.at) (rank_count g) js (λ j. owners_are_ranks g js j.at division)
 
-pub ranks_by_id_have_all : OrdersByIdHaveAll → RanksByIdHaveAll
-ranks_by_id_have_all law g js division distinct =
+pub ranks_by_id_have_all : RanksInTurnHaveAll → PartsKeepPermutations ℕ Particle → OrdersByIdHaveAll → RanksByIdHaveAll
+ranks_by_id_have_all in_turn parts by_ids g js division distinct =
     let ranks : List ℕ = range_with_len 0 (rank_count g) in
     IsPermutation-trans js (flat_map (particles_of g js) ranks) (flat_map (λ rank. by_id (particles_of g js rank)) ranks)
-    (ranks_in_turn_have_all g js division)
-    (each_permutes (particles_of g js) (λ rank. by_id (particles_of g js rank))
-    (λ rank. law (particles_of g js rank) (some_have_distinct_ids (λ j. nat_eq (owner g js j.at) rank) js distinct)) ranks)
+    (in_turn g js division)
+    (parts (particles_of g js) (λ rank. by_id (particles_of g js rank)) ranks ranks
+    (λ rank. by_ids (particles_of g js rank) (some_have_distinct_ids (λ j. nat_eq (owner g js j.at) rank) js distinct)) (IsPermutation-refl ranks))
 
 lone_rank_has_all : (g : Division) (js : List Particle) → IsDivision g → rank_count g ≡ 1 → particles_of g js 0 ≡ js
 lone_rank_has_all g js division one =

@@ -9,6 +9,8 @@ ghost use Rattle.model_laws.specs.DomainLaws.{RanksByIdHaveAll, OrdersAlongAreOn
 ghost use Rattle.model_laws.specs.DomainLaws.{CutsAlongIgnoreOrder, CutsAreOfSlabsAndColumns};
 
 use crate::id_laws::orders_by_id_have_all;
+use order_laws::{lists_in_order_are_one, parts_by_key_are_all, parts_keep_permutations};
+use pf_model::Body;
 
 /// The owner of a position is one of the ranks.
 pub fn owners_are_ranks()
@@ -58,7 +60,9 @@ pub fn domain_boxes_hold_what_is_owned()
 /// Particles have one order of (coordinate, id) along an axis.
 pub fn orders_along_are_one()
     ensures { OrdersAlongAreOne }
-{}
+{
+    lists_in_order_are_one::<Body>();
+}
 
 /// The coordinates ascend in this order.
 pub fn coordinates_ascend()
@@ -93,11 +97,15 @@ pub fn ranks_have_their_own()
 /// The particles of the ranks in turn are all.
 pub fn ranks_in_turn_have_all()
     ensures { RanksInTurnHaveAll }
-{}
+{
+    parts_by_key_are_all::<Body>();
+}
 
 /// So they are by id in each rank.
 pub fn ranks_by_id_have_all()
     ensures { RanksByIdHaveAll }
 {
+    ranks_in_turn_have_all();
+    parts_keep_permutations::<u32, Body>();
     orders_by_id_have_all();
 }

@@ -5,7 +5,8 @@ ghost use Rattle.model_laws.specs.GroupLaws.{GroupLevelsAreLeast, PositionsShare
 ghost use Rattle.model_laws.specs.GroupLaws.{GroupCellsAreOrdered, EachIsInOneGroup, GroupsIgnoreOrder};
 ghost use Rattle.model_laws.specs.GroupLaws.{GroupsOfOneAreOnePlace, GroupsAreFew, BoxesAreLeast, BoxesIgnoreOrder};
 
-use pf_geom::{cells_of_a_position_nest, keys_are_distinct, positions_share_lower_cells};
+use order_laws::rising_lists_are_one;
+use pf_geom::{Cell, cells_of_a_position_nest, keys_are_distinct, positions_share_lower_cells};
 
 /// The level of a position's group is the least at which its cell has few enough particles, or the deepest.
 pub fn group_levels_are_least()
@@ -30,6 +31,7 @@ pub fn members_share_their_group()
 pub fn group_cells_are_ordered()
     ensures { GroupCellsAreOrdered }
 {
+    rising_lists_are_one::<Cell>();
     cells_of_a_position_nest();
     positions_share_lower_cells();
 }
@@ -51,8 +53,7 @@ pub fn each_is_in_one_group()
 pub fn groups_ignore_order()
     ensures { GroupsIgnoreOrder }
 {
-    cells_of_a_position_nest();
-    positions_share_lower_cells();
+    group_cells_are_ordered();
 }
 
 /// With the limit 1 a group is what lies at one place, and its box is this place.
