@@ -7,11 +7,9 @@ use Rattle.std.proofs.lemmas.List.{get_or_default}
 use Rattle.std.proofs.lemmas.List.Edits.{length-remove}
 use Rattle.std.proofs.lemmas.List.Sorted.{IsPermutation-refl, IsPermutation-cons, IsPermutation-trans, IsPermutation-swap, IsPermutation-keeps, IsPermutation-sym, IsPermutation-remove, Contains-permutation}
 use Rattle.pf_model.specs.declared.entry.Entry.{Entry}
-use Rattle.pf_model.specs.Sums.{together}
 use Rattle.pf_model.specs.Interaction.{comes_before}
-use Rattle.pf_model.specs.Sufficiency.{moment_together, entry_moment}
-use Rattle.group_lists.proofs.MergeLemmas.{BeforeAll, Ascends, not_before_itself}
-use Rattle.group_lists.proofs.KeyedLemmas.{together-turn}
+use Rattle.model_laws.specs.ListLaws.{EntryOrderIsStrict}
+use Rattle.group_lists.proofs.MergeLemmas.{BeforeAll, Ascends}
 use Rattle.group_lists.proofs.OccupiedLemmas.{head_or_rest}
 
 -- a relation of lists that is reflexive and transitive, and goes under a head and over an exchange of two heads
@@ -38,23 +36,6 @@ module _ {X : Type 0} (R : List X → List X → Type 0) (same : (xs : List X) �
 
   pub along_permutation : (xs ys : List X) → IsPermutation xs ys → R xs ys
   along_permutation xs = IsPermutation-keeps xs (R xs) (same xs) (λ l i j p q h. chain xs l _ h (swapped l i j p q))
-
--- the moment of the items that pass a test
-kept_head : (b : Bool) (e : Entry) (es fs : List Entry) → moment_together es ≡ moment_together fs → moment_together (cond b (e ∷ es) es) ≡ moment_together (cond b (e ∷ fs) fs)
-kept_head true e es fs h = ap (together (entry_moment e)) h
-kept_head false e es fs h = h
-
-kept_turned : (a b : Bool) (e f : Entry) (es : List Entry) → moment_together (cond a (e ∷ cond b (f ∷ es) es) (cond b (f ∷ es) es)) ≡ moment_together (cond b (f ∷ cond a (e ∷ es) es) (cond a (e ∷ es) es))
-kept_turned true true e f es = together-turn (entry_moment e) (entry_moment f) (moment_together es)
-kept_turned true false e f es = refl
-kept_turned false true e f es = refl
-kept_turned false false e f es = refl
-
-pub moment_permutation : (test : Entry → Bool) (es fs : List Entry) → IsPermutation es fs → moment_together (filter test es) ≡ moment_together (filter test fs)
-moment_permutation test es fs same =
-    along_permutation (λ (us vs : List Entry). moment_together (filter test us) ≡ moment_together (filter test vs))
-    (λ us. refl) (λ e us vs h. kept_head (test e) e (filter test us) (filter test vs) h)
-    (λ e f us. kept_turned (test e) (test f) e f (filter test us)) (λ us vs ws h k. h ∙ k) es fs same
 
 -- no element stands at two places
 abbrev pub Apart : {X : Type 0} → List X → Type 0
@@ -96,9 +77,9 @@ before_one e [] f all h = absurd (omega (arith, h.1))
 before_one e (g ∷ gs) f all h =
     elim (head_or_rest g gs f h) [ inl same ↦ ap (comes_before e) (sym same) ∙ all.0 | inr rest ↦ before_one e gs f all.1 rest ]
 
-pub apart_order : (es : List Entry) → Ascends es → Apart es
-apart_order [] a = tt
-apart_order (e ∷ es) a = (λ there. not_before_itself e (before_one e es e a.0 there), apart_order es a.1)
+pub apart_order : EntryOrderIsStrict → (es : List Entry) → Ascends es → Apart es
+apart_order strict [] a = tt
+apart_order strict (e ∷ es) a = (λ there. strict.irreflexive e (before_one e es e a.0 there), apart_order strict es a.1)
 
 -- elements that differ, all of a list, are no more than it has
 pub no_more_than : {X : Type 0} (ys xs : List X) → Apart ys → ((y : X) → Contains ys y → Contains xs y) → length ys ≤ length xs

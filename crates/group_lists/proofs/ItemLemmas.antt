@@ -22,8 +22,9 @@ use Rattle.pf_model.specs.Sums.{moment_of}
 use Rattle.pf_model.specs.Interaction.{level_of, leads_to_cell, entry_at, entry_of, list_of}
 use Rattle.pf_model.specs.Sufficiency.{lies_in, moment_together}
 use Rattle.model_laws.specs.SufficiencyLaws.{EntriesAddUpTheirItems}
-use Rattle.model_laws.specs.ListLaws.{ListsHoldTheirEntries}
-use Rattle.model_laws.specs.MomentLaws.{MomentsKeepTheirLimits}
+use Rattle.model_laws.specs.ListLaws.{ListsHoldTheirEntries, EntryOrderIsStrict}
+use Rattle.model_laws.specs.MomentLaws.{EntriesJoinInAnyOrder, MomentsKeepTheirLimits}
+use Rattle.order_laws.specs.OrderLaws.{TestsKeepPermutations}
 use Rattle.model_laws.specs.ParticleLaws.{SomeHaveDistinctIds}
 use Rattle.cell_runs.specs.declared.cell_run.CellRun.{CellRun}
 use Rattle.cell_runs.specs.CellRuns.{IsPlaceOf, IsWholeCell, IsCellRun, AreCellRuns}
@@ -36,7 +37,7 @@ use Rattle.group_lists.proofs.MergeLemmas.{ascends}
 use Rattle.group_lists.proofs.TotalLemmas.{length-filter-le}
 use Rattle.group_lists.proofs.PositionLemmas.{PositionLaws, AreNested, passes_inner, is_deep, corner_in, item_shares_at, item_level, item_is_near}
 use Rattle.group_lists.proofs.OccupiedLemmas.{same_octant, octant_same, head_or_rest, served_tree}
-use Rattle.group_lists.proofs.ApartLemmas.{Apart, moment_permutation, apart_permutation, apart_at, apart_order, no_more_than, segment}
+use Rattle.group_lists.proofs.ApartLemmas.{Apart, apart_permutation, apart_at, apart_order, no_more_than, segment}
 
 -- what this rests on
 pub record ItemLaws : Type 0 where
@@ -44,6 +45,9 @@ pub record ItemLaws : Type 0 where
   pub nest : CellsOfAPositionNest
   pub entries : ListsHoldTheirEntries
   pub add_up : EntriesAddUpTheirItems
+  pub joins : EntriesJoinInAnyOrder
+  pub tests : TestsKeepPermutations Entry
+  pub strict : EntryOrderIsStrict
   pub limits : MomentsKeepTheirLimits
   pub each_place : RunsHoldEachPlace
   pub rise : RunsRise
@@ -190,7 +194,7 @@ module _ (laws : ItemLaws) (t : Criterion) (inner outer : Bounds) (nested : AreN
           let listed = subst (Contains (list_of t inner js)) is (((laws.entries t inner js (list_of t inner js) distinct).1 refl).complete from.0 from.1) in
           let test : Entry → Bool = λ f. lies_in f (Cell run_cell run_moment) in
           laws.add_up t inner outer js (Cell run_cell run_moment) nested.inner_is nested.outer_is nested.within distinct listed
-          ∙ moment_permutation test (list_of t outer js) items same
+          ∙ laws.joins (filter test (list_of t outer js)) (filter test items) (laws.tests test (list_of t outer js) items same)
           ∙ ap moment_together (segment test items r.first r.len inside_items (λ k e within least less. lies_at run_moment k e within (least, less)) (λ k e within lies. place_from run_moment k e within lies))
 
     -- the piece of the run is the entry of each particle of its items
@@ -314,7 +318,7 @@ module _ (laws : ItemLaws) (t : Criterion) (inner outer : Bounds) (nested : AreN
     pub pieces_are_few : length pieces ≤ length (list_of t inner js)
     pieces_are_few =
         let list = (laws.entries t outer js (list_of t outer js) distinct).1 refl in
-        let apart = apart_permutation (list_of t outer js) items same (apart_order (list_of t outer js) (ascends (list_of t outer js) list.ordered)) in
+        let apart = apart_permutation (list_of t outer js) items same (apart_order laws.strict (list_of t outer js) (ascends (list_of t outer js) list.ordered)) in
         let mine = (laws.entries t inner js (list_of t inner js) distinct).1 refl in
         no_more_than pieces (list_of t inner js) (pieces_apart apart runs pieces are.each (laws.rise 0 (length places) runs are.in_turn) all)
         (λ e there. let from = pieces_sound e there in subst (Contains (list_of t inner js)) (sym from.2) (mine.complete from.0 from.1))

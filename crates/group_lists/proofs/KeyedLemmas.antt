@@ -16,16 +16,10 @@ use Rattle.pf_model.specs.Particle.{Particle}
 use Rattle.pf_model.specs.Totals.{Totals, IsTotals}
 use Rattle.pf_model.specs.Sums.{moment_of, together, pairwise_sums, IsRest}
 use Rattle.pf_model.specs.Interaction.{is_cell}
+use Rattle.model_laws.specs.MomentLaws.{MomentsJoinInAnyOrder, EntriesJoinTheirMoments}
 use Rattle.pf_model.specs.Sufficiency.{entry_moment, moment_together}
 use Rattle.morton_tree.specs.Tree.{IsInKeyOrder}
 use Rattle.group_lists.proofs.SearchLemmas.{StandFirst}
-
-pub eight_pow : (n : ℕ) → 2 ^ (3 * n) ≡ 8 ^ n
-eight_pow zero = refl
-eight_pow (suc n) =
-    let place : 3 * suc n ≡ 3 * n + 3 = omega arith in
-    let step : 2 ^ (3 * suc n) ≡ 2 ^ (3 * n) * 8 = ap (λ e. 2 ^ e) place ∙ pow-add 2 (3 * n) 3 in
-    step ∙ ap (λ m. m * 8) (eight_pow n) ∙ sym (pow-suc 8 n)
 
 pub eight_pos : (n : ℕ) → 0 < 8 ^ n
 eight_pos zero = omega arith
@@ -79,74 +73,25 @@ pub is_cell_by_key : (c : Octant) (key : ℕ) (b : Bool) → b ≡ eqb key c.key
 is_cell_by_key c key true e = and_from _ _ (eq-eqb c.level c.level refl) (eq-eqb c.key key (sym (eqb-true key c.key (sym e))))
 is_cell_by_key c key false e = and_right _ _ (ne_eqb c.key key (λ same. eqb-false key c.key (sym e) (sym same)))
 
--- moments together, in any order
-sums_comm : (xs ys : List ℤ) → pairwise_sums xs ys ≡ pairwise_sums ys xs
-sums_comm [] [] = refl
-sums_comm [] (y ∷ ys) = refl
-sums_comm (x ∷ xs) [] = refl
-sums_comm (x ∷ xs) (y ∷ ys) =
-    let head : x +ℤ y ≡ y +ℤ x = omega (arith, ints) in
-    let rest = sums_comm xs ys in
-    λ i. head i ∷ rest i
-
-sums_assoc : (xs ys zs : List ℤ) → pairwise_sums (pairwise_sums xs ys) zs ≡ pairwise_sums xs (pairwise_sums ys zs)
-sums_assoc [] ys zs = refl
-sums_assoc (x ∷ xs) [] zs = refl
-sums_assoc (x ∷ xs) (y ∷ ys) [] = refl
-sums_assoc (x ∷ xs) (y ∷ ys) (z ∷ zs) =
-    let head : (x +ℤ y) +ℤ z ≡ x +ℤ (y +ℤ z) = omega (arith, ints) in
-    let rest = sums_assoc xs ys zs in
-    λ i. head i ∷ rest i
-
-pub together-comm : (m n : Totals) → together m n ≡ together n m
-together-comm m n =
-    let count : m.count + n.count ≡ n.count + m.count = omega arith in
-    let mass : m.mass + n.mass ≡ n.mass + m.mass = omega arith in
-    let each : (k : ℕ) → get_or m.weighted k 0 + get_or n.weighted k 0 ≡ get_or n.weighted k 0 + get_or m.weighted k 0 = λ k. omega arith in
-    λ i. record { count = count i; mass = mass i; weighted = each 0 i ∷ each 1 i ∷ each 2 i ∷ []; attr = sums_comm m.attr n.attr i }
-
-pub together-assoc : (m n o : Totals) → together (together m n) o ≡ together m (together n o)
-together-assoc m n o =
-    let count : (m.count + n.count) + o.count ≡ m.count + (n.count + o.count) = omega arith in
-    let mass : (m.mass + n.mass) + o.mass ≡ m.mass + (n.mass + o.mass) = omega arith in
-    let each : (k : ℕ) → (get_or m.weighted k 0 + get_or n.weighted k 0) + get_or o.weighted k 0 ≡ get_or m.weighted k 0 + (get_or n.weighted k 0 + get_or o.weighted k 0) = λ k. omega arith in
-    λ i. record { count = count i; mass = mass i; weighted = each 0 i ∷ each 1 i ∷ each 2 i ∷ []; attr = sums_assoc m.attr n.attr o.attr i }
-
--- two of three exchanged
-pub together-turn : (m n o : Totals) → together m (together n o) ≡ together n (together m o)
-together-turn m n o = sym (together-assoc m n o) ∙ ap (λ (x : Totals). together x o) (together-comm m n) ∙ together-assoc n m o
-
 -- one item more
-pub together_push : (es : List Entry) (e : Entry) → moment_together (es ++ e ∷ []) ≡ together (moment_together es) (entry_moment e)
-together_push [] e = together-comm (entry_moment e) (moment_of [])
-together_push (f ∷ fs) e = ap (together (entry_moment f)) (together_push fs e) ∙ sym (together-assoc (entry_moment f) (moment_together fs) (entry_moment e))
-
-none_together : together (moment_of []) (moment_of []) ≡ moment_of []
-unfolding moment_of
-none_together = refl
-
-with_none : (es : List Entry) → together (moment_of []) (moment_together es) ≡ moment_together es
-with_none [] = none_together
-with_none (e ∷ es) = together-turn (moment_of []) (entry_moment e) (moment_together es) ∙ ap (together (entry_moment e)) (with_none es)
-
-pub together-append : (es fs : List Entry) → moment_together (es ++ fs) ≡ together (moment_together es) (moment_together fs)
-together-append [] fs = sym (with_none fs)
-together-append (e ∷ es) fs = ap (together (entry_moment e)) (together-append es fs) ∙ sym (together-assoc (entry_moment e) (moment_together es) (moment_together fs))
+together_push : MomentsJoinInAnyOrder → (es : List Entry) (e : Entry) → moment_together (es ++ e ∷ []) ≡ together (moment_together es) (entry_moment e)
+together_push join [] e = join.0 (entry_moment e) (moment_of [])
+together_push join (f ∷ fs) e = ap (together (entry_moment f)) (together_push join fs e) ∙ sym (join.1 (entry_moment f) (moment_together fs) (entry_moment e))
 
 -- the sum over the first items and one more
-pub together_more : (es : List Entry) (i : ℕ) (e : Entry) (m n : Totals) → i < length es → e ≡ get_or es i e → m ≡ moment_together (take i es) → n ≡ entry_moment e → together m n ≡ moment_together (take (i + 1) es)
-together_more es i e m n within at so_far one =
-    (λ k. together (so_far k) (one k)) ∙ sym (together_push (take i es) e) ∙ ap (λ (f : Entry). moment_together (take i es ++ f ∷ [])) at ∙ ap moment_together (sym (take_more es i e within))
+pub together_more : MomentsJoinInAnyOrder → (es : List Entry) (i : ℕ) (e : Entry) (m n : Totals) → i < length es → e ≡ get_or es i e → m ≡ moment_together (take i es) → n ≡ entry_moment e → together m n ≡ moment_together (take (i + 1) es)
+together_more join es i e m n within at so_far one =
+    (λ k. together (so_far k) (one k)) ∙ sym (together_push join (take i es) e) ∙ ap (λ (f : Entry). moment_together (take i es ++ f ∷ [])) at ∙ ap moment_together (sym (take_more es i e within))
 
 count_none : (moment_of []).count ≡ 0
 unfolding moment_of
 count_none = refl
 
 -- how many there are of all is no less
-pub count_more : (es : List Entry) (i : ℕ) (e : Entry) (m n : Totals) → i < length es → e ≡ get_or es i e → m ≡ moment_together (take i es) → n ≡ entry_moment e → (moment_together es).count ≤ 65536 → m.count + n.count ≤ 65536
-count_more es i e m n within at so_far one few =
-    let front = ap (λ (x : Totals). x.count) (together_more es i e m n within at so_far one) in
-    let all = ap (λ (x : Totals). x.count) (ap moment_together (sym (take-append-drop (i + 1) es)) ∙ together-append (take (i + 1) es) (drop (i + 1) es)) in
+pub count_more : MomentsJoinInAnyOrder → EntriesJoinTheirMoments → (es : List Entry) (i : ℕ) (e : Entry) (m n : Totals) → i < length es → e ≡ get_or es i e → m ≡ moment_together (take i es) → n ≡ entry_moment e → (moment_together es).count ≤ 65536 → m.count + n.count ≤ 65536
+count_more join entries es i e m n within at so_far one few =
+    let front = ap (λ (x : Totals). x.count) (together_more join es i e m n within at so_far one) in
+    let all = ap (λ (x : Totals). x.count) (ap moment_together (sym (take-append-drop (i + 1) es)) ∙ entries (take (i + 1) es) (drop (i + 1) es)) in
     omega arith
 
 -- the sums over the first items, with one more
@@ -165,12 +110,12 @@ sum_at items sums k m is within at =
     at ∙ ap (λ (ms : List Totals). get_or ms k m) is ∙ get_or-map-range_with_len (λ n. moment_together (take n items)) 0 (length items + 1) k k m (omega arith) (omega arith)
 
 -- the sum over the items through a place is that before another and that between
-pub sum_between : (items : List Entry) (sums : List Totals) (first len : ℕ) (through before : Totals) → sums ≡ first_sums items (length items + 1) → first + len ≤ length items → through ≡ get_or sums (first + len) through → before ≡ get_or sums first before →
+pub sum_between : EntriesJoinTheirMoments → (items : List Entry) (sums : List Totals) (first len : ℕ) (through before : Totals) → sums ≡ first_sums items (length items + 1) → first + len ≤ length items → through ≡ get_or sums (first + len) through → before ≡ get_or sums first before →
     IsTotals (moment_together (take len (drop first items))) → IsRest through before (moment_together (take len (drop first items)))
-sum_between items sums first len through before is within at_through at_before limits = record {
+sum_between entries items sums first len through before is within at_through at_before limits = record {
   limits = limits;
   makes =
       sum_at items sums (first + len) through is within at_through ∙ ap moment_together (take-add first len items)
-      ∙ together-append (take first items) (take len (drop first items))
+      ∙ entries (take first items) (take len (drop first items))
       ∙ ap (λ (m : Totals). together m (moment_together (take len (drop first items)))) (sym (sum_at items sums first before is (omega arith) at_before));
 }

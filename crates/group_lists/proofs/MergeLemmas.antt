@@ -1,13 +1,14 @@
 -- Two lists in order merged from the front.
 use Rattle.std.proofs.Common.{◌≡◌, ℕ, zero, suc, ◌+◌, ◌<◌, ◌≤◌, Bool, true, false, not, List, [], ◌∷◌, ◌++◌, length, get_or, drop, ◌⊎◌, inl, inr, ◌&&◌, ◌||◌, refl, sym, ◌∙◌, ap, subst, arith, ltb, eqb}
 use Rattle.std.specs.List.Sorted.{IsPartitionedBy}
-use Rattle.std.proofs.lemmas.Bool.{cases_lt, cases_order, cond-true, cond-false, cond_both, ltb-true, ltb-false, lt-ltb, eqb-true, eq-eqb, or_cases, or_left, or_right, and_parts, and_from, false≢true, true≢false, false_from_ne_true, both_ways, not-true, not_from_false}
+use Rattle.std.proofs.lemmas.Bool.{cases_lt, cases_order, cond-true, cond-false, cond_both, ltb-true, ltb-false, lt-ltb, eqb-true, eq-eqb, or_cases, or_left, or_right, and_parts, and_from, true≢false, false_from_ne_true, both_ways, not-true, not_from_false}
 use Rattle.std.proofs.lemmas.List.{drop_more, drop_all, append_assoc, append-nil}
 use Rattle.pf_geom.specs.Octant.{Octant}
 use Rattle.pf_model.specs.Totals.{Totals}
 use Rattle.pf_model.specs.declared.entry.Entry.{Entry}
 use Rattle.pf_model.specs.declared.entry.Entry.TheVariants.{Cell, One}
 use Rattle.pf_model.specs.Interaction.{comes_before, IsInListOrder}
+use Rattle.model_laws.specs.ListLaws.{EntryOrderIsStrict}
 use Rattle.pf_model.specs.Merging.{joined, with_entry, merged, is_level}
 use Rattle.group_lists.specs.Pieces.{IsNextOfBoth}
 use Rattle.group_lists.proofs.SearchLemmas.{StandFirst}
@@ -33,12 +34,6 @@ pair_before_from a m b n (inr h) = or_right _ _ (and_from _ _ (eq-eqb a b h.0) (
 not_pair : (a m b n : ℕ) → pair_before a m b n ≡ false → PairBelow a m b n → ⊥
 not_pair a m b n e h = both_ways (pair_before a m b n) e (pair_before_from a m b n h)
 
-pair_chain : (a m b n c o : ℕ) → PairBelow a m b n → PairBelow b n c o → PairBelow a m c o
-pair_chain a m b n c o (inl h) (inl k) = inl (omega arith)
-pair_chain a m b n c o (inl h) (inr k) = inl (omega (arith, k.0))
-pair_chain a m b n c o (inr h) (inl k) = inl (omega (arith, h.0))
-pair_chain a m b n c o (inr h) (inr k) = inr (omega (arith, h.0, k.0), omega (arith, h.1, k.1))
-
 pair_level : (a m b n : ℕ) → (PairBelow a m b n → ⊥) → (PairBelow b n a m → ⊥) → (a ≡ b) × (m ≡ n)
 pair_level a m b n h k =
     elim (cases_order a b) [
@@ -49,24 +44,8 @@ pair_level a m b n h k =
       | inr u ↦ elim u [ inl less ↦ absurd (h (inl less)) | inr more ↦ absurd (k (inl more)) ]
     ]
 
--- the order of lists is transitive
-pub before_chain : (e f g : Entry) → comes_before e f ≡ true → comes_before f g ≡ true → comes_before e g ≡ true
-before_chain (Cell c m) (Cell d n) (Cell b o) h k = pair_before_from c.level c.key b.level b.key (pair_chain c.level c.key d.level d.key b.level b.key (pair_below c.level c.key d.level d.key h) (pair_below d.level d.key b.level b.key k))
-before_chain (Cell c m) (Cell d n) (One r) h k = refl
-before_chain (Cell c m) (One q) (Cell b o) h k = absurd (false≢true k)
-before_chain (Cell c m) (One q) (One r) h k = refl
-before_chain (One p) (Cell d n) g h k = absurd (false≢true h)
-before_chain (One p) (One q) (Cell b o) h k = absurd (false≢true k)
-before_chain (One p) (One q) (One r) h k = lt-ltb p.id r.id (let a = ltb-true p.id q.id h in let b = ltb-true q.id r.id k in omega arith)
-
--- nothing comes before itself
-pub not_before_itself : (e : Entry) → comes_before e e ≡ true → ⊥
-not_before_itself (Cell c m) h =
-    elim (pair_below c.level c.key c.level c.key h) [ inl less ↦ absurd (omega arith) | inr both ↦ absurd (omega (arith, both.1)) ]
-not_before_itself (One p) h = let less = ltb-true p.id p.id h in absurd (omega arith)
-
-pub not_after : (e f : Entry) → comes_before e f ≡ true → comes_before f e ≡ false
-not_after e f h = false_from_ne_true (comes_before f e) (λ k. not_before_itself e (before_chain e f e h k))
+not_after : EntryOrderIsStrict → (e f : Entry) → comes_before e f ≡ true → comes_before f e ≡ false
+not_after strict e f h = false_from_ne_true (comes_before f e) (λ k. strict.irreflexive e (strict.transitive e f e h k))
 
 -- cells at one place are one
 pub level_octant : (c d : Octant) (m n : Totals) → comes_before (Cell c m) (Cell d n) ≡ false → comes_before (Cell d n) (Cell c m) ≡ false → d ≡ c
@@ -112,9 +91,9 @@ ascends-drop zero es h = h
 ascends-drop (suc k) [] h = tt
 ascends-drop (suc k) (e ∷ es) h = ascends-drop k es h.1
 
-pub before_later : (e f : Entry) (fs : List Entry) → comes_before e f ≡ true → BeforeAll f fs → BeforeAll e fs
-before_later e f [] h all = tt
-before_later e f (g ∷ gs) h all = (before_chain e f g h all.0, before_later e f gs h all.1)
+before_later : EntryOrderIsStrict → (e f : Entry) (fs : List Entry) → comes_before e f ≡ true → BeforeAll f fs → BeforeAll e fs
+before_later strict e f [] h all = tt
+before_later strict e f (g ∷ gs) h all = (strict.transitive e f g h all.0, before_later strict e f gs h all.1)
 
 level_before_all : (e f : Entry) (es : List Entry) → comes_before e f ≡ false → comes_before f e ≡ false → BeforeAll e es → BeforeAll f es
 level_before_all e f [] h k all = tt
@@ -153,18 +132,18 @@ merged-none [] h = refl
 merged-none (e ∷ es) h = ap (with_entry e) (merged-none es h.1) ∙ with_first e es h.0
 
 -- the first of the other comes first
-pub merged-second : (f : Entry) (es fs : List Entry) → BeforeAll f es → merged es (f ∷ fs) ≡ f ∷ merged es fs
+pub merged-second : EntryOrderIsStrict → (f : Entry) (es fs : List Entry) → BeforeAll f es → merged es (f ∷ fs) ≡ f ∷ merged es fs
 unfolding merged
-merged-second f [] fs h = refl
-merged-second f (e ∷ es) fs h =
-    ap (with_entry e) (merged-second f es fs h.1)
-    ∙ cond-false (comes_before e f) _ _ (not_after f e h.0) ∙ cond-true (comes_before f e) _ _ h.0
+merged-second strict f [] fs h = refl
+merged-second strict f (e ∷ es) fs h =
+    ap (with_entry e) (merged-second strict f es fs h.1)
+    ∙ cond-false (comes_before e f) _ _ (not_after strict f e h.0) ∙ cond-true (comes_before f e) _ _ h.0
 
 -- the first of both stand at one place
-pub merged-both : (e f : Entry) (es fs : List Entry) → comes_before e f ≡ false → comes_before f e ≡ false → BeforeAll e es → merged (e ∷ es) (f ∷ fs) ≡ joined e f ∷ merged es fs
+pub merged-both : EntryOrderIsStrict → (e f : Entry) (es fs : List Entry) → comes_before e f ≡ false → comes_before f e ≡ false → BeforeAll e es → merged (e ∷ es) (f ∷ fs) ≡ joined e f ∷ merged es fs
 unfolding merged
-merged-both e f es fs h k all =
-    ap (with_entry e) (merged-second f es fs (level_before_all e f es h k all))
+merged-both strict e f es fs h k all =
+    ap (with_entry e) (merged-second strict f es fs (level_before_all e f es h k all))
     ∙ cond-false (comes_before e f) _ _ h ∙ cond-false (comes_before f e) _ _ k
 
 -- what the front of a list in order is from a place on
@@ -174,7 +153,7 @@ front_of es k e h within at =
     let rest : Ascends (e ∷ drop (k + 1) es) = subst Ascends front (ascends-drop k es h) in
     (front, rest.0)
 
-module _ (es fs : List Entry) (up : Ascends es) (fup : Ascends fs) (i k : ℕ) (i_in : i ≤ length es) (k_in : k ≤ length fs) where
+module _ (strict : EntryOrderIsStrict) (es fs : List Entry) (up : Ascends es) (fup : Ascends fs) (i k : ℕ) (i_in : i ≤ length es) (k_in : k ≤ length fs) where
   -- only the other list has more
   pub next_second : (f : Entry) → length es ≤ i → k < length fs → f ≡ get_or fs k f → IsNextOfBoth es fs i k f i (k + 1)
   next_second f done within at =
@@ -184,7 +163,7 @@ module _ (es fs : List Entry) (up : Ascends es) (fup : Ascends fs) (i k : ℕ) (
         first_within = i_in;
         second_within = omega arith;
         later = omega arith;
-        rest = ap (λ (x : List Entry). merged x (drop k fs)) none ∙ ap (merged []) front.0 ∙ merged-second f [] (drop (k + 1) fs) tt
+        rest = ap (λ (x : List Entry). merged x (drop k fs)) none ∙ ap (merged []) front.0 ∙ merged-second strict f [] (drop (k + 1) fs) tt
             ∙ ap (λ (x : List Entry). f ∷ merged x (drop (k + 1) fs)) (sym none);
       }
 
@@ -213,7 +192,7 @@ module _ (es fs : List Entry) (up : Ascends es) (fup : Ascends fs) (i k : ℕ) (
           first_within = omega arith;
           second_within = k_in;
           later = omega arith;
-          rest = both_fronts ∙ merged-first e (drop (i + 1) es) (f ∷ drop (k + 1) fs) mine.1 (h, before_later e f (drop (k + 1) fs) h other.1)
+          rest = both_fronts ∙ merged-first e (drop (i + 1) es) (f ∷ drop (k + 1) fs) mine.1 (h, before_later strict e f (drop (k + 1) fs) h other.1)
               ∙ ap (λ (x : List Entry). e ∷ merged (drop (i + 1) es) x) (sym other.0);
         }
 
@@ -224,7 +203,7 @@ module _ (es fs : List Entry) (up : Ascends es) (fup : Ascends fs) (i k : ℕ) (
           first_within = i_in;
           second_within = omega arith;
           later = omega arith;
-          rest = both_fronts ∙ merged-second f (e ∷ drop (i + 1) es) (drop (k + 1) fs) (h, before_later f e (drop (i + 1) es) h mine.1)
+          rest = both_fronts ∙ merged-second strict f (e ∷ drop (i + 1) es) (drop (k + 1) fs) (h, before_later strict f e (drop (i + 1) es) h mine.1)
               ∙ ap (λ (x : List Entry). f ∷ merged x (drop (k + 1) fs)) (sym mine.0);
         }
 
@@ -235,7 +214,7 @@ module _ (es fs : List Entry) (up : Ascends es) (fup : Ascends fs) (i k : ℕ) (
           first_within = omega arith;
           second_within = omega arith;
           later = omega arith;
-          rest = both_fronts ∙ merged-both e f (drop (i + 1) es) (drop (k + 1) fs) h g mine.1;
+          rest = both_fronts ∙ merged-both strict e f (drop (i + 1) es) (drop (k + 1) fs) h g mine.1;
         }
 
 nothing_left : (es fs : List Entry) → es ≡ [] → fs ≡ [] → merged es fs ≡ []
@@ -272,21 +251,21 @@ merged_all es fs i k done before end =
     sym (append-nil done) ∙ ap (λ (x : List Entry). done ++ x) (sym none) ∙ before.all
 
 -- the entries before a place in the order of lists
-pub earlier_first : (e : Entry) (fs : List Entry) → IsInListOrder fs → IsPartitionedBy (λ f. comes_before f e) fs
-earlier_first e fs order i j d least within h =
+pub earlier_first : EntryOrderIsStrict → (e : Entry) (fs : List Entry) → IsInListOrder fs → IsPartitionedBy (λ f. comes_before f e) fs
+earlier_first strict e fs order i j d least within h =
     elim (cases_lt i j) [
-      | inl less ↦ before_chain (get_or fs i d) (get_or fs j d) e (order i j d less within) h
+      | inl less ↦ strict.transitive (get_or fs i d) (get_or fs j d) e (order i j d less within) h
       | inr more ↦ (let same : i ≡ j = omega arith in ap (λ (k : ℕ). comes_before (get_or fs k d) e) same ∙ h)
     ]
 
 -- the entry at a place stands first of those that don't come before it
-pub level_stands_first : (e : Entry) (fs : List Entry) → IsInListOrder fs → StandFirst (λ f. comes_before f e) (is_level e) fs
-level_stands_first e fs order = record {
+pub level_stands_first : EntryOrderIsStrict → (e : Entry) (fs : List Entry) → IsInListOrder fs → StandFirst (λ f. comes_before f e) (is_level e) fs
+level_stands_first strict e fs order = record {
   apart = λ f level before. both_ways (comes_before f e) (not-true _ (and_parts _ _ level).1) before;
   first = λ j k d least within later level.
       let at_k = not-true _ (and_parts _ _ level).0 in
       let at_j : comes_before e (get_or fs j d) ≡ false = false_from_ne_true _ (λ h. elim (cases_lt j k) [
-        | inl less ↦ both_ways _ at_k (before_chain e (get_or fs j d) (get_or fs k d) h (order j k d less within))
+        | inl less ↦ both_ways _ at_k (strict.transitive e (get_or fs j d) (get_or fs k d) h (order j k d less within))
         | inr more ↦ (let same : j ≡ k = omega arith in both_ways _ at_k (ap (λ (n : ℕ). comes_before e (get_or fs n d)) (sym same) ∙ h))
       ]) in
       and_from _ _ (not_from_false _ at_j) (not_from_false _ later);

@@ -24,7 +24,7 @@ use Rattle.pf_model.specs.Sums.{moment_of}
 use Rattle.pf_model.specs.Group.{particles_in}
 use Rattle.pf_model.specs.Interaction.{level_of, is_cell, entry_at, entry_of, comes_before, list_of}
 use Rattle.pf_model.specs.Merging.{is_level, common_count}
-use Rattle.model_laws.specs.ListLaws.{ListsHoldTheirEntries, ListsHoldFirstCells, ListsHoldNearParticles, IsFirstCell}
+use Rattle.model_laws.specs.ListLaws.{ListsHoldTheirEntries, ListsHoldFirstCells, ListsHoldNearParticles, EntryOrderIsStrict, IsFirstCell}
 use Rattle.model_laws.specs.ParticleLaws.{SomeHaveDistinctIds, ParticlesOfOneIdAreOne}
 use Rattle.model_laws.specs.DomainLaws.{OneRankHasItsOwn}
 use Rattle.pf_model.specs.EssentialTree.{Essential, tree_for, essential_tree, particles_of_ranks}
@@ -33,7 +33,7 @@ use Rattle.group_lists.specs.Gathering.{Gathering, IsNewSource, IsSentTo, CanAbs
 use Rattle.group_lists.specs.Keyed.{IsServed, item_position}
 use Rattle.group_lists.specs.Pieces.{is_occupied}
 use Rattle.group_lists.proofs.CellLemmas.{NonePassesBelow}
-use Rattle.group_lists.proofs.MergeLemmas.{not_before_itself, level_octant}
+use Rattle.group_lists.proofs.MergeLemmas.{level_octant}
 use Rattle.group_lists.proofs.PositionLemmas.{PositionLaws, AreNested, item_shares_at, item_shares_from}
 use Rattle.group_lists.proofs.PieceLemmas.{before_of}
 
@@ -137,9 +137,9 @@ count_some : {X : Type 0} (xs : List X) (x : X) → Contains xs x → 1 ≤ leng
 count_some xs x h = let within : h.0 < length xs = h.1 in omega arith
 
 -- which entries stand at the place of a cell or a particle
-level_with_itself : (c : Octant) (m n : Totals) → is_level (Cell c m) (Cell c n) ≡ true
-level_with_itself c m n =
-    let none : comes_before (Cell c m) (Cell c m) ≡ false = false_from_ne_true _ (not_before_itself (Cell c m)) in
+level_with_itself : EntryOrderIsStrict → (c : Octant) (m n : Totals) → is_level (Cell c m) (Cell c n) ≡ true
+level_with_itself strict c m n =
+    let none : comes_before (Cell c m) (Cell c m) ≡ false = false_from_ne_true _ (strict.irreflexive (Cell c m)) in
     and_from _ _ (not_from_false _ none) (not_from_false _ none)
 
 level_cell : (c : Octant) (m : Totals) (f : Entry) → is_level (Cell c m) f ≡ true → (n : Totals) × (f ≡ Cell c n)
@@ -165,6 +165,7 @@ pub record ListLaws : Type 0 where
   pub some : SomeHaveDistinctIds
   pub ids : ParticlesOfOneIdAreOne
   pub one_rank : OneRankHasItsOwn
+  pub strict : EntryOrderIsStrict
 
 module _ (laws : ListLaws) (t : Criterion) (g : Division) (js : List Particle) (gather : Gathering) (src : ℕ) (group : Group) (theta : Criterion) (trees : List Essential) (bodies : AreBodies js) (new : IsNewSource g gather src)
     (own : IsPermutation gather.own (particles_of g js gather.rank)) (absorbs : CanAbsorb t g js gather theta trees) (served : IsServed g js gather.rank group.around) where
@@ -273,7 +274,7 @@ module _ (laws : ListLaws) (t : Criterion) (g : Division) (js : List Particle) (
       let found = some_before c is first e in
       let some : 1 ≤ length (particles_in c before) = count_some (particles_in c before) found.0 (contains_kept (in_cell c) before found.0 found.1 found.2) in
       let n = moment_of (particles_in c before) in
-      any_from (is_level (Cell c m)) (list_of t box before) (Cell c n) ((laws.first_cells t box before c n distinct is).1 (first, some, refl)) (level_with_itself c m n))
+      any_from (is_level (Cell c m)) (list_of t box before) (Cell c n) ((laws.first_cells t box before c n distinct is).1 (first, some, refl)) (level_with_itself laws.strict c m n))
       (λ e.
       let found = found_in (is_level (Cell c m)) (list_of t box before) e in
       let same = level_cell c m found.0 found.2 in

@@ -21,10 +21,9 @@ use Rattle.pf_model.specs.Particle.{Particle}
 use Rattle.pf_model.specs.Particles.{HaveDistinctIds}
 use Rattle.pf_model.specs.Criterion.{Criterion}
 use Rattle.pf_model.specs.Sums.{moment_of}
-use Rattle.pf_model.specs.Interaction.{level_of, leads_to_cell, entry_at, entry_of, comes_before, list_of}
+use Rattle.pf_model.specs.Interaction.{entry_place, level_of, leads_to_cell, entry_at, entry_of, comes_before, list_of}
 use Rattle.model_laws.specs.ParticleLaws.{ParticlesOfOneIdAreOne}
 use Rattle.model_laws.specs.ListLaws.{LevelsAreLeast, ListsHoldTheirEntries}
-use Rattle.group_lists.specs.Places.{entry_place}
 use Rattle.group_lists.specs.Runs.{HasEntriesOf}
 
 -- the order of pairs that the sort goes by, and whether two pairs are equal

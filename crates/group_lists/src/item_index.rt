@@ -12,7 +12,7 @@ ghost use Rattle.group_lists.specs.Keyed.{item_key};
 ghost use Rattle.group_lists.specs.Listing.{IsSpanOf};
 ghost use Rattle.group_lists.specs.Indexed.{IsIndexOf, AreIdsOf, HaveDistinctPlaces, LieByPlace, as_items};
 
-use crate::keyed_tree::cell_key;
+use cell_runs::cell_key;
 use morton_tree::Span;
 use pf_geom::{Cell, key_of};
 use pf_model::{Body, Entry, MOST_PARTICLES};

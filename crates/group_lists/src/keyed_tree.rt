@@ -1,4 +1,4 @@
-ghost use Rattle.std.specs.Prelude.{◌≡◌, ◌-◌, ◌/◌, ◌^◌, ◌<◌, ◌≤◌, ◌+◌, IfOk, All, length, map, take, drop};
+ghost use Rattle.std.specs.Prelude.{◌≡◌, ◌^◌, ◌<◌, ◌≤◌, ◌+◌, IfOk, All, length, map, take, drop};
 ghost use Rattle.std.specs.List.{list_any};
 ghost use Rattle.std.specs.List.Sorted.{IsNonDecreasing};
 ghost use Rattle.pf_geom.specs.Octant.{cell_at};
@@ -13,8 +13,12 @@ ghost use Rattle.group_lists.specs.Indexed.{IsKeptOf};
 use crate::item_index::ItemIndex;
 use crate::kept_source::KeptSource;
 use crate::key_order::{items_in_order, key_order, places_of};
-use pf_geom::{Cell, DEEPEST, corner, key_of};
-use model_laws::{lists_are_short, lists_hold_their_entries, lists_merge, some_have_distinct_ids};
+use cell_runs::cell_key;
+use pf_geom::{Cell, corner, key_of};
+use model_laws::{
+    entries_join_their_moments, lists_are_short, lists_hold_their_entries, lists_merge,
+    moments_join_in_any_order, some_have_distinct_ids,
+};
 use pf_model::{Entry, EssTree, MOST_PARTICLES, Moment, Terms};
 use pf_num::OutOfMemory;
 use std::alloc::Global;
@@ -92,6 +96,7 @@ impl<T: Terms> KeyedTree<T> {
         requires limits { IsTotals (moment_together (take len (drop first self.now.items))) }
         ensures { result ≡ moment_together (take len (drop first self.now.items)) }
     {
+        entries_join_their_moments();
         let before = self.sums[first as usize];
         let through = self.sums[(first + len) as usize];
         through.without(before)
@@ -115,14 +120,6 @@ fn has_key_in(keys: &[u128], cell: Cell) -> bool
         Some(key) => cell_key(*key, cell.level) == cell.key,
         None => false,
     }
-}
-
-// The key of the cell at a level of what has this key.
-pub(crate) fn cell_key(key: u128, level: u32) -> u128
-    requires { level ≤ DEEPEST }
-    ensures { result ≡ key / 8 ^ (DEEPEST - level) }
-{
-    key >> (3 * (DEEPEST - level))
 }
 
 // The key of an item: that of the corner of its cell, or of the particle.
@@ -153,6 +150,8 @@ fn sums_of(alloc: Global, items: &[Entry]) -> Result<Vec<Moment>, OutOfMemory>
     requires { (moment_together items.now).count ≤ MOST_PARTICLES }
     ensures { IfOk result (λ sums. sums.items ≡ item_sums items.now) }
 {
+    moments_join_in_any_order();
+    entries_join_their_moments();
     let mut sums = Vec::with_capacity(alloc, items.len() + 1)?;
     let mut so_far = Moment::none();
     sums.push(so_far)?;

@@ -10,11 +10,13 @@ use pf_geom::{
 };
 use model_laws::{
     boxes_lie_in_domains, cells_pass_for_boxes_inside, distinct_ids_ignore_order,
-    entries_add_up_their_items, levels_are_least, lists_are_short, lists_hold_first_cells,
-    lists_hold_near_particles, lists_hold_their_entries, lists_ignore_order, lists_merge,
-    merged_lists_share_cells, moments_keep_their_limits, one_rank_has_its_own,
-    particles_of_one_id_are_one, ranks_have_their_own, some_have_distinct_ids,
+    entries_add_up_their_items, entries_join_in_any_order, entry_order_is_strict, levels_are_least,
+    lists_are_short, lists_hold_first_cells, lists_hold_near_particles, lists_hold_their_entries,
+    lists_ignore_order, lists_merge, merged_lists_share_cells, moments_keep_their_limits,
+    one_rank_has_its_own, particles_of_one_id_are_one, ranks_have_their_own, some_have_distinct_ids,
 };
+use order_laws::tests_keep_permutations;
+use pf_model::Entry;
 
 // The list of a group with one source more is its list and the pieces, merged.
 pub(crate) fn pieces_make_lists()
@@ -57,6 +59,7 @@ pub(crate) fn common_pieces_are_occupied()
     one_rank_has_its_own();
     some_have_distinct_ids();
     particles_of_one_id_are_one();
+    entry_order_is_strict();
 }
 
 // The essential trees of a rank serve the boxes of its groups.
@@ -79,6 +82,9 @@ pub(crate) fn items_make_pieces()
     lists_hold_their_entries();
     some_have_distinct_ids();
     entries_add_up_their_items();
+    entries_join_in_any_order();
+    tests_keep_permutations::<Entry>();
+    entry_order_is_strict();
     moments_keep_their_limits();
     runs_hold_each_place();
     runs_rise();

@@ -3,8 +3,7 @@ ghost use Rattle.pf_geom.specs.Bounds.{Bounds};
 ghost use Rattle.pf_model.specs.Particle.{Particle};
 ghost use Rattle.pf_model.specs.Particles.{HaveDistinctIds};
 ghost use Rattle.pf_model.specs.Criterion.{Criterion};
-ghost use Rattle.pf_model.specs.Interaction.{list_of};
-ghost use Rattle.group_lists.specs.Places.{entry_place};
+ghost use Rattle.pf_model.specs.Interaction.{entry_place, list_of};
 ghost use Rattle.group_lists.specs.Runs.{HasEntriesOf};
 
 use pf_geom::DEEPEST;

@@ -4,10 +4,10 @@ ghost use Rattle.pf_model.specs.EssentialTree.{limited_list};
 ghost use Rattle.pf_model.specs.Sufficiency.{moment_together};
 ghost use Rattle.group_lists.specs.Keyed.{IsServed, items_at, IsPieceOfRun};
 
-use crate::keyed_tree::{KeyedTree, cell_key};
+use crate::keyed_tree::KeyedTree;
 use crate::laws::items_make_pieces;
 use crate::ordering::put_in_order;
-use cell_runs::{CellRun, find_runs};
+use cell_runs::{CellRun, cell_key, find_runs};
 use pf_geom::{Box3, Cell, DEEPEST, positions_have_cells};
 use model_laws::{one_rank_has_its_own, some_have_distinct_ids};
 use pf_model::{Entry, Steps, Terms, Theta};

@@ -8,14 +8,14 @@ pub returns-then-from-pieces : goal.returns-then-from-pieces
 returns-then-from-pieces c =
     let es = c.args.pieces.now in
     let fs = c.args.entries.now in
-    next_second es fs (ascends es c.requires.pieces) (ascends fs c.requires.entries) c.args.from c.args.at c.requires.first c.requires.second
+    next_second c.entry_order_is_strict.ensures es fs (ascends es c.requires.pieces) (ascends fs c.requires.entries) c.args.from c.args.at c.requires.first c.requires.second
     c.index-entries-at.result (let done = c.if-from-pieces.true in omega arith) (let done = c.if-from-pieces.true in let more = c.requires.more in omega arith) c.index-entries-at.is
 
 pub returns-then-at-entries : goal.returns-then-at-entries
 returns-then-at-entries c =
     let es = c.args.pieces.now in
     let fs = c.args.entries.now in
-    next_first es fs (ascends es c.requires.pieces) (ascends fs c.requires.entries) c.args.from c.args.at c.requires.first c.requires.second
+    next_first c.entry_order_is_strict.ensures es fs (ascends es c.requires.pieces) (ascends fs c.requires.entries) c.args.from c.args.at c.requires.first c.requires.second
     c.index-pieces-from.result (let done = c.if-at-entries.true in omega arith) (let done = c.if-at-entries.true in let more = c.requires.more in omega arith) c.index-pieces-from.is
 
 pub returns-then-comes_before : goal.returns-then-comes_before
@@ -26,7 +26,7 @@ returns-then-comes_before c =
     let second = c.requires.second in
     let from = c.if-from-pieces.false in
     let at = c.if-at-entries.false in
-    next_before es fs (ascends es c.requires.pieces) (ascends fs c.requires.entries) c.args.from c.args.at first second
+    next_before c.entry_order_is_strict.ensures es fs (ascends es c.requires.pieces) (ascends fs c.requires.entries) c.args.from c.args.at first second
     c.index-pieces-from-2.result c.index-entries-at-2.result (omega arith) (omega arith) c.index-pieces-from-2.is c.index-entries-at-2.is (sym c.comes_before.ensures ∙ c.if-comes_before.true)
 
 pub returns-then-comes_before-2 : goal.returns-then-comes_before-2
@@ -37,7 +37,7 @@ returns-then-comes_before-2 c =
     let second = c.requires.second in
     let from = c.if-from-pieces.false in
     let at = c.if-at-entries.false in
-    next_after es fs (ascends es c.requires.pieces) (ascends fs c.requires.entries) c.args.from c.args.at first second
+    next_after c.entry_order_is_strict.ensures es fs (ascends es c.requires.pieces) (ascends fs c.requires.entries) c.args.from c.args.at first second
     c.index-pieces-from-2.result c.index-entries-at-2.result (omega arith) (omega arith) c.index-pieces-from-2.is c.index-entries-at-2.is (sym c.comes_before-else-comes_before.ensures ∙ c.if-comes_before-2.true)
 
 pub returns-else-comes_before-2 : goal.returns-else-comes_before-2
@@ -49,5 +49,5 @@ returns-else-comes_before-2 c =
     let from = c.if-from-pieces.false in
     let at = c.if-at-entries.false in
     subst (λ (e : Entry). IsNextOfBoth es fs c.args.from c.args.at e (c.args.from + 1) (c.args.at + 1)) (sym c.joined.ensures)
-    (next_joined es fs (ascends es c.requires.pieces) (ascends fs c.requires.entries) c.args.from c.args.at first second
+    (next_joined c.entry_order_is_strict.ensures es fs (ascends es c.requires.pieces) (ascends fs c.requires.entries) c.args.from c.args.at first second
     c.index-pieces-from-2.result c.index-entries-at-2.result (omega arith) (omega arith) c.index-pieces-from-2.is c.index-entries-at-2.is (sym c.comes_before.ensures ∙ c.if-comes_before.false) (sym c.comes_before-else-comes_before.ensures ∙ c.if-comes_before-2.false))

@@ -1,6 +1,6 @@
 use Rattle.std.proofs.Common.{rules, of_calls, ◌∙◌}
 use Rattle.std.proofs.lemmas.Fn.{always_returns_same, dedup_same}
-use Rattle.group_lists.specs.Places.{entry_place}
+use Rattle.pf_model.specs.Interaction.{entry_place}
 use Rattle.group_lists.proofs.OrderLemmas.{same_place, list_from_sort}
 use Rattle.group_lists.proofs.ordering.put_in_order.Goals as goal
 

@@ -29,7 +29,7 @@ without-requires g c =
     let inside : c.args.first + c.args.len ≤ length items = (let h = c.requires.within in let same = ap length view in omega arith) in
     let limits : IsTotals (moment_together (take c.args.len (drop c.args.first items))) = subst (λ (es : List Entry). IsTotals (moment_together (take c.args.len (drop c.args.first es)))) (sym view) c.requires.limits in (
       moment_together (take c.args.len (drop c.args.first items)),
-      sum_between items c.self.inside.sums.items c.args.first c.args.len _ _ c.self.invariant.summed inside c.index-through.ensures c.index-before.ensures limits,
+      sum_between c.entries_join_their_moments.ensures items c.self.inside.sums.items c.args.first c.args.len _ _ c.self.invariant.summed inside c.index-through.ensures c.index-before.ensures limits,
     )
 
 pub returns : goal.returns
@@ -38,5 +38,5 @@ returns g c =
     let view = ap (λ (v : Essential). v.items) c.self.view_is in
     let inside : c.args.first + c.args.len ≤ length items = (let h = c.requires.within in let same = ap length view in omega arith) in
     let limits : IsTotals (moment_together (take c.args.len (drop c.args.first items))) = subst (λ (es : List Entry). IsTotals (moment_together (take c.args.len (drop c.args.first es)))) (sym view) c.requires.limits in
-    let rest = sum_between items c.self.inside.sums.items c.args.first c.args.len c.index-through.result.now c.index-before.result.now c.self.invariant.summed inside c.index-through.ensures c.index-before.ensures limits in
+    let rest = sum_between c.entries_join_their_moments.ensures items c.self.inside.sums.items c.args.first c.args.len c.index-through.result.now c.index-before.result.now c.self.invariant.summed inside c.index-through.ensures c.index-before.ensures limits in
     c.without.ensures _ rest ∙ ap (λ (es : List Entry). moment_together (take c.args.len (drop c.args.first es))) view
