@@ -12,7 +12,7 @@ use Rattle.kern_meaning.specs.Names.{Known, name_value}
 use Rattle.kern_meaning.specs.Operators.{part_value, one_value, three_value, to_value}
 use Rattle.kern_meaning.specs.Stops.{◌>>=◌}
 use Rattle.kern_meaning.proofs.Fits.{Fits, fits_along, bind_fits, num_fits, part_fits, one_fits, two_fits, three_fits, to_fits}
-use Rattle.kern_meaning.proofs.Layers.{number_layer, name_layer, part_layer, one_layer, two_layer, three_layer, to_layer}
+use Rattle.kern_tree.proofs.Layers.{number_layer, name_layer, part_layer, one_layer, two_layer, three_layer, to_layer}
 
 module _ (decls : List Decl) (scope : Scope) (known : Known) (names_fit : (place : ℕ) (name : List ℕ) → Fits (name_type decls scope place name) (name_value (known name))) where
   pub expr_fits : {e : Expr} → IsLimited e → Fits (type_of decls scope e) (value_of known e)

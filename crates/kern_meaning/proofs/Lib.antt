@@ -2,7 +2,6 @@ pub mod Counts
 pub mod DeclTyping
 pub mod ExprTyping
 pub mod Fits
-pub mod Layers
 pub mod LinkLemmas
 pub mod Literals
 pub mod Meanings

@@ -18,7 +18,7 @@ use Rattle.kern_meaning.specs.Names.{Known, known_at_start, name_value, with_val
 use Rattle.kern_meaning.specs.Pair.{at_statement, act_meaning, Statements}
 use Rattle.kern_meaning.specs.Stops.{◌>>=◌}
 use Rattle.kern_meaning.specs.Walks.{act_assigned, stmt_assigned, assigned_by, HavePlaces, HasPlace, known_by, number_of, pair_state}
-use Rattle.kern_meaning.proofs.Layers.{of_form, name_layer, set_layer, if_layer}
+use Rattle.kern_tree.proofs.Layers.{of_form, name_layer, set_layer, if_layer}
 use Rattle.kern_meaning.proofs.Meanings.{set_is}
 use Rattle.kern_meaning.proofs.NamePlaces.{assigned_known, link_known}
 

@@ -38,7 +38,7 @@ use Rattle.kern_meaning.specs.Values.{type_of_value}
 use Rattle.kern_meaning.proofs.DeclTyping.{DeclFits, passed_first, passed_then, tested}
 use Rattle.kern_meaning.proofs.ExprTyping.{expr_fits}
 use Rattle.kern_meaning.proofs.Fits.{Fits, FitsAs}
-use Rattle.kern_meaning.proofs.Layers.{set_layer, give_layer, if_layer}
+use Rattle.kern_tree.proofs.Layers.{set_layer, give_layer, if_layer}
 
 -- ---- names
 

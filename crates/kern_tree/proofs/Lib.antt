@@ -1,6 +1,7 @@
 pub mod Classes
 pub mod DeclLaws
 pub mod ExprLaws
+pub mod Layers
 pub mod NodeEquations
 pub mod OneAnswer
 pub mod Shapes

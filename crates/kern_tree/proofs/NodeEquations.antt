@@ -64,11 +64,13 @@ flat_map-map : (f : Stmt → List ℕ) (ss : List Stmt) → flat_map (λ ns. ns)
 flat_map-map f [] = refl
 flat_map-map f (s ∷ ss) = ap (λ ns. f s ++ ns) (flat_map-map f ss)
 
+pub act_nodes-if : (condition : Expr) (body others : List Stmt) → fold-Act (List ℕ) (List ℕ) act_nodes stmt_step (acts.If condition body others) ≡ expr_nodes condition ++ flat_map stmt_nodes body ++ flat_map stmt_nodes others
+act_nodes-if condition body others =
+    ap (fold-Act (List ℕ) (List ℕ) act_nodes stmt_step) (sym (acts.rolls-If condition body others))
+    ∙ fold-roll-Act (List ℕ) (List ℕ) act_nodes stmt_step (Act-F.If condition body others)
+    ∙ ap (λ ns. expr_nodes condition ++ ns ++ flat_map (λ ms. ms) (map stmt_nodes others)) (flat_map-map stmt_nodes body)
+    ∙ ap (λ ns. expr_nodes condition ++ flat_map stmt_nodes body ++ ns) (flat_map-map stmt_nodes others)
+
 pub nodes-if : (place : ℕ) (condition : Expr) (body others : List Stmt) → stmt_nodes (stmt_node place (acts.If condition body others)) ≡ place ∷ (expr_nodes condition ++ flat_map stmt_nodes body ++ flat_map stmt_nodes others)
 unfolding of_act
-nodes-if place condition body others =
-    at_stmt place (acts.If condition body others)
-    ∙ ap (λ a. place ∷ of_act a) (sym (acts.rolls-If condition body others))
-    ∙ ap (λ ns. place ∷ ns) (fold-roll-Act (List ℕ) (List ℕ) act_nodes stmt_step (Act-F.If condition body others))
-    ∙ ap (λ ns. place ∷ (expr_nodes condition ++ ns ++ flat_map (λ ms. ms) (map stmt_nodes others))) (flat_map-map stmt_nodes body)
-    ∙ ap (λ ns. place ∷ (expr_nodes condition ++ flat_map stmt_nodes body ++ ns)) (flat_map-map stmt_nodes others)
+nodes-if place condition body others = at_stmt place (acts.If condition body others) ∙ ap (λ ns. place ∷ ns) (act_nodes-if condition body others)

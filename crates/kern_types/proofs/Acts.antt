@@ -1,36 +1,23 @@
 -- What a statement does, by its parts.
-use Rattle.std.proofs.Common.{◌≡◌, ℕ, ◌+◌, List, [], ◌∷◌, map, min, Ok, Err, sym, ap, ◌∙◌, refl, arith, rules, ◌<◌}
+use Rattle.std.proofs.Common.{◌≡◌, ℕ, ◌+◌, List, map, min, Ok, Err, sym, ap, ◌∙◌, arith, rules, ◌<◌}
 use Rattle.std.specs.Prelude.{sum}
 use Rattle.kern_tree.specs.declared.expr.Expr.{Expr}
 use Rattle.kern_tree.specs.declared.kernel.Decl.{Decl}
 use Rattle.kern_tree.specs.declared.stmt.Act.{Act, the_lemmas}
 use Rattle.kern_tree.specs.declared.stmt.Act.TheVariants as acts
-use Rattle.kern_tree.specs.declared.stmt.Act.TheFolds.{fold-roll-Act, fold-Stmt, fold_out-Stmt}
-use Rattle.kern_tree.specs.declared.stmt.Act.TheOpen as layers
 use Rattle.kern_tree.specs.declared.stmt.Stmt.{Stmt}
+use Rattle.kern_tree.proofs.Layers.{of_stmt, if_layer}
 use Rattle.kern_tree.proofs.stmt.Act.TheLaws.{the_size as act_size}
 use Rattle.kern_tree.proofs.stmt.Stmt.TheLaws.{the_size as stmt_size}
 use denote.Param.Weighed.{most}
 use Rattle.kern_types.specs.declared.fault.TypeFault.{TypeFault}
 use Rattle.kern_types.specs.Scopes.{Scope}
 use Rattle.kern_types.specs.NameLists.{common}
-use Rattle.kern_types.specs.Statements.{ScopeChange, act_after, act_scope, at_stmt_place, act_slots, stmt_slots, if_check, slots_in, slots_in_act, stmt_after, stmts_after}
+use Rattle.kern_types.specs.Statements.{act_after, act_scope, at_stmt_place, act_slots, stmt_slots, if_check, slots_in, slots_in_act, stmts_after}
 use Rattle.kern_types.specs.Steps.{◌>>=◌, ◌>>◌}
+use Rattle.kern_types.proofs.Nodes.{slots_of_all}
 
 -- ---- the scope after a statement
-
-by_fold : (decls : List Decl) (s : Stmt) → fold-Stmt (ℕ → ScopeChange) ScopeChange (act_after decls) at_stmt_place s ≡ stmt_after decls s
-by_fold decls s = fold_out-Stmt (ℕ → ScopeChange) ScopeChange (act_after decls) at_stmt_place s
-
-all_by_fold : (decls : List Decl) (block : List Stmt) → map (fold-Stmt (ℕ → ScopeChange) ScopeChange (act_after decls) at_stmt_place) block ≡ map (stmt_after decls) block
-all_by_fold decls [] = refl
-all_by_fold decls (s ∷ block) = ap (λ x. x ∷ map (fold-Stmt (ℕ → ScopeChange) ScopeChange (act_after decls) at_stmt_place) block) (by_fold decls s) ∙ ap (λ x. stmt_after decls s ∷ x) (all_by_fold decls block)
-
-if_form : (decls : List Decl) (condition : Expr) (block other : List Stmt) → act_scope decls (acts.If condition block other) ≡ act_after decls (layers.If condition (map (stmt_after decls) block) (map (stmt_after decls) other))
-if_form decls condition block other =
-    ap (act_scope decls) (sym (acts.rolls-If condition block other)) ∙ fold-roll-Act (ℕ → ScopeChange) ScopeChange (act_after decls) at_stmt_place (layers.If condition block other)
-    ∙ ap (λ x. act_after decls (layers.If condition x (map (fold-Stmt (ℕ → ScopeChange) ScopeChange (act_after decls) at_stmt_place) other))) (all_by_fold decls block)
-    ∙ ap (λ x. act_after decls (layers.If condition (map (stmt_after decls) block) x)) (all_by_fold decls other)
 
 -- the scope in which the second block begins
 abbrev pub before_other : Scope → Scope → Scope
@@ -42,7 +29,7 @@ joined first second = record { earlier = second.earlier; certain = common first.
 -- an `if`, by its condition and its blocks
 if_parts : (decls : List Decl) (condition : Expr) (block other : List Stmt) (act : Act) (place : ℕ) (scope : Scope) → act ≡ acts.If condition block other
     → act_scope decls act place scope ≡ (if_check decls place condition scope >> (stmts_after decls block scope >>= (λ first. stmts_after decls other (before_other scope first) >>= (λ second. Ok (joined first second)))))
-if_parts decls condition block other act place scope is = ap (λ a. act_scope decls a place scope) is ∙ ap (λ f. f place scope) (if_form decls condition block other)
+if_parts decls condition block other act place scope is = ap (λ a. act_scope decls a place scope) is ∙ ap (λ f. f place scope) (if_layer (act_after decls) at_stmt_place condition block other)
 
 module _ (decls : List Decl) (condition : Expr) (block other : List Stmt) (act : Act) (place : ℕ) (scope : Scope) (is : act ≡ acts.If condition block other) (holds : Ok tt ≡ if_check decls place condition scope) where
   after_condition : act_scope decls act place scope ≡ (stmts_after decls block scope >>= (λ first. stmts_after decls other (before_other scope first) >>= (λ second. Ok (joined first second))))
@@ -80,18 +67,10 @@ other_smaller condition block other read act is same = rw (same, is) (search (ru
 
 -- ---- contributions
 
-each_by_fold : (block : List Stmt) → map (fold-Stmt ℕ ℕ act_slots stmt_slots) block ≡ map (λ s. slots_in_act s.act) block
-each_by_fold [] = refl
-each_by_fold (s ∷ block) = ap (λ n. n ∷ map (fold-Stmt ℕ ℕ act_slots stmt_slots) block) (fold_out-Stmt ℕ ℕ act_slots stmt_slots s) ∙ ap (λ ns. slots_in_act s.act ∷ ns) (each_by_fold block)
-
-slots_by_fold : (block : List Stmt) → sum (map (fold-Stmt ℕ ℕ act_slots stmt_slots) block) ≡ slots_in block
-slots_by_fold block = ap sum (each_by_fold block)
-
 pub if_slots : (condition : Expr) (block other : List Stmt) (act : Act) → act ≡ acts.If condition block other → slots_in_act act ≡ slots_in block + slots_in other
 if_slots condition block other act is =
-    ap slots_in_act is ∙ ap slots_in_act (sym (acts.rolls-If condition block other)) ∙ fold-roll-Act ℕ ℕ act_slots stmt_slots (layers.If condition block other)
-    ∙ ap (λ n. n + sum (map (fold-Stmt ℕ ℕ act_slots stmt_slots) other)) (slots_by_fold block)
-    ∙ ap (λ n. slots_in block + n) (slots_by_fold other)
+    ap slots_in_act is ∙ if_layer act_slots stmt_slots condition block other
+    ∙ ap (λ n. n + sum (map (of_stmt act_slots stmt_slots) other)) (slots_of_all block) ∙ ap (λ n. slots_in block + n) (slots_of_all other)
 
 -- a sum that stops at a limit, of parts that stop there
 pub limited_sum : (r p q a b n limit : ℕ) → r ≡ min (p + q) limit → p ≡ min a limit → q ≡ min b limit → n ≡ a + b → r ≡ min n limit

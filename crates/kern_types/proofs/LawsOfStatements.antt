@@ -25,7 +25,7 @@ use Rattle.kern_types.specs.TypingLaws.{ScopesOnlyGrow, CertainIsOnEveryPath, Ce
 use Rattle.kern_types.specs.WellTyped.{at_start, kernel_after}
 use Rattle.kern_types.proofs.Acts.{before_other, joined}
 use Rattle.kern_types.proofs.Checks.{passed_first, passed_then, Reached, reached, checked_same, find_kept, find_later}
-use Rattle.kern_types.proofs.Layers.{set_layer, give_layer, if_layer}
+use Rattle.kern_tree.proofs.Layers.{set_layer, give_layer, if_layer}
 use Rattle.kern_types.proofs.Numbers.{grown_none, grown_then, grown_assigned}
 use Rattle.kern_types.proofs.Paths.{or_false, and_true, or_assoc, or_and, among_both, all_of_both, all_then, among_common}
 

@@ -1,7 +1,6 @@
 pub mod Acts
 pub mod Checks
 pub mod Kernels
-pub mod Layers
 pub mod LawsOfDeclarations
 pub mod LawsOfStatements
 pub mod Paths

@@ -1,29 +1,17 @@
 -- Contributions are nodes.
-use Rattle.std.proofs.Common.{◌≡◌, ℕ, ◌+◌, ◌-◌, ◌^◌, ◌≤◌, List, [], ◌∷◌, ◌++◌, length, map, flat_map, min, refl, sym, ap, ◌∙◌, arith, length-append, fold, sum}
+use Rattle.std.proofs.Common.{◌≡◌, ℕ, ◌+◌, ◌-◌, ◌^◌, ◌≤◌, List, [], ◌∷◌, ◌++◌, length, map, flat_map, min, refl, ap, arith, length-append, fold, sum}
 use Rattle.kern_tree.specs.declared.expr.Expr.{Expr}
 use Rattle.kern_tree.specs.declared.kernel.Decl.{Decl}
 use Rattle.kern_tree.specs.declared.kernel.Kernel.{Kernel}
 use Rattle.kern_tree.specs.declared.stmt.Act.{Act}
 use Rattle.kern_tree.specs.declared.stmt.Act.TheVariants as acts
-use Rattle.kern_tree.specs.declared.stmt.Act.TheFolds.{fold-roll-Act, fold-Stmt, fold_out-Stmt}
-use Rattle.kern_tree.specs.declared.stmt.Act.TheOpen as layers
 use Rattle.kern_tree.specs.declared.stmt.Stmt.{Stmt}
-use Rattle.kern_tree.specs.Nodes.{act_nodes, expr_nodes, kernel_nodes, stmt_nodes, stmt_step}
-use Rattle.kern_tree.specs.Grammar.{stmt_node}
+use Rattle.kern_tree.specs.Nodes.{expr_nodes, kernel_nodes, stmt_nodes}
 use Rattle.kern_tree.specs.Limits as limits
 use Rattle.kern_tree.specs.Limits.{IsLimitedStmt, IsLimitedBlock}
 use Rattle.kern_types.specs.Statements.{act_slots, stmt_slots, nodes_in_act, slots_in, slots_in_act}
-use Rattle.kern_types.proofs.Layers.{of_stmt, set_layer, give_layer, if_layer}
-
-all_nodes : (block : List Stmt) → flat_map (λ ns. ns) (map (fold-Stmt (List ℕ) (List ℕ) act_nodes stmt_step) block) ≡ flat_map stmt_nodes block
-all_nodes [] = refl
-all_nodes (s ∷ block) = ap (λ ns. stmt_nodes s ++ ns) (all_nodes block)
-
-if_nodes : (condition : Expr) (block other : List Stmt) → nodes_in_act (acts.If condition block other) ≡ expr_nodes condition ++ flat_map stmt_nodes block ++ flat_map stmt_nodes other
-if_nodes condition block other =
-    ap nodes_in_act (sym (acts.rolls-If condition block other)) ∙ fold-roll-Act (List ℕ) (List ℕ) act_nodes stmt_step (layers.If condition block other)
-    ∙ ap (λ ns. expr_nodes condition ++ ns ++ flat_map (λ ms. ms) (map (fold-Stmt (List ℕ) (List ℕ) act_nodes stmt_step) other)) (all_nodes block)
-    ∙ ap (λ ns. expr_nodes condition ++ flat_map stmt_nodes block ++ ns) (all_nodes other)
+use Rattle.kern_tree.proofs.Layers.{of_stmt, set_layer, give_layer, if_layer}
+use Rattle.kern_tree.proofs.NodeEquations.{act_nodes-if, nodes-give, nodes-if}
 
 pub if_within : (condition : Expr) (block other read read_other : List Stmt) (act : Act) → act ≡ acts.If condition block other → slots_in_act act ≡ slots_in block + slots_in other → read ≡ block → read_other ≡ other
     → slots_in read ≤ length (flat_map stmt_nodes read) → slots_in read_other ≤ length (flat_map stmt_nodes read_other) → slots_in_act act ≤ length (nodes_in_act act) + 1
@@ -36,7 +24,7 @@ if_within condition block other read read_other act is slots same same_other fir
       ap (λ ss. length (flat_map stmt_nodes ss)) same,
       ap (λ ss. length (flat_map stmt_nodes ss)) same_other,
       ap (λ a. length (nodes_in_act a)) is,
-      ap length (if_nodes condition block other),
+      ap length (act_nodes-if condition block other),
       length-append (expr_nodes condition ++ flat_map stmt_nodes block) (flat_map stmt_nodes other),
       length-append (expr_nodes condition) (flat_map stmt_nodes block),
     )
@@ -48,13 +36,6 @@ few_slots kernel body count same few counted within =
     omega (arith, length-append (flat_map (λ (d : Decl). d.place ∷ []) kernel.decls) (flat_map stmt_nodes kernel.body), ap slots_in same, ap (λ ss. length (flat_map stmt_nodes ss)) same)
 
 -- ---- by the statements themselves
-
-nodes_are : (s : Stmt) → stmt_nodes s ≡ of_stmt act_nodes stmt_step s
-nodes_are s = fold_out-Stmt (List ℕ) (List ℕ) act_nodes stmt_step s
-
-nodes_of_all : (block : List Stmt) → flat_map (λ (ns : List ℕ). ns) (map (of_stmt act_nodes stmt_step) block) ≡ flat_map stmt_nodes block
-nodes_of_all [] = refl
-nodes_of_all (s ∷ block) = ap (λ ns. ns ++ flat_map (λ (ms : List ℕ). ms) (map (of_stmt act_nodes stmt_step) block)) (sym (nodes_are s)) ∙ ap (λ ns. stmt_nodes s ++ ns) (nodes_of_all block)
 
 sum_from : (a : ℕ) (ns : List ℕ) → fold (λ x y. x + y) a ns ≡ a + fold (λ x y. x + y) 0 ns
 sum_from a [] = omega arith
@@ -72,18 +53,14 @@ slots_of_all block = ap sum (each block) where
 mutual
   stmt_within : {s : Stmt} → IsLimitedStmt s → slots_in_act s.act ≤ length (stmt_nodes s)
   stmt_within (limits.set {place = p} {name = n} {value = v} h) = omega (arith, set_layer act_slots stmt_slots n v)
-  stmt_within (limits.give {place = p} {name = n} {value = v} h) = omega (arith, give_layer act_slots stmt_slots n v, ap length (nodes_are (stmt_node p (acts.Give n v))))
+  stmt_within (limits.give {place = p} {name = n} {value = v} h) = omega (arith, give_layer act_slots stmt_slots n v, ap length (nodes-give p n v))
   stmt_within (limits.conditional {place = p} {condition = c} {body = body} {others = others} h one two) =
-      let nodes : stmt_nodes (stmt_node p (acts.If c body others)) ≡ p ∷ (expr_nodes c ++ flat_map stmt_nodes body ++ flat_map stmt_nodes others) =
-      nodes_are (stmt_node p (acts.If c body others)) ∙ ap (λ ns. p ∷ ns) (if_layer act_nodes stmt_step c body others)
-      ∙ ap (λ ns. p ∷ (expr_nodes c ++ ns ++ flat_map (λ (ms : List ℕ). ms) (map (of_stmt act_nodes stmt_step) others))) (nodes_of_all body)
-      ∙ ap (λ ns. p ∷ (expr_nodes c ++ flat_map stmt_nodes body ++ ns)) (nodes_of_all others) in
       omega (
         arith,
         if_layer act_slots stmt_slots c body others,
         slots_of_all body,
         slots_of_all others,
-        ap length nodes,
+        ap length (nodes-if p c body others),
         length-append (expr_nodes c ++ flat_map stmt_nodes body) (flat_map stmt_nodes others),
         length-append (expr_nodes c) (flat_map stmt_nodes body),
         block_slots one,

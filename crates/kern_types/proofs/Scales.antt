@@ -28,7 +28,7 @@ use Rattle.kern_types.specs.Scopes.{Scope}
 use Rattle.kern_types.specs.Steps.{OrFault, ◌>>=◌}
 use Rattle.kern_types.specs.TypingLaws.{HasFittingScale, FitsIfTyped, AreFitting, ExpressionScalesFit, AssignedScalesFit}
 use Rattle.kern_types.specs.WellTyped.{at_start}
-use Rattle.kern_types.proofs.Layers.{number_layer, name_layer, part_layer, one_layer, two_layer, three_layer, to_layer}
+use Rattle.kern_tree.proofs.Layers.{number_layer, name_layer, part_layer, one_layer, two_layer, three_layer, to_layer}
 use Rattle.kern_types.proofs.LawsOfStatements.{block_holds, after_decls}
 
 le_tested : (a b : ℕ) → nat_le a b ≡ true → a ≤ b

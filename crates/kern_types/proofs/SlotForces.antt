@@ -18,7 +18,7 @@ use Rattle.kern_types.specs.TypingLaws.{SlotsHaveForces}
 use Rattle.kern_types.specs.WellTyped.{at_start}
 use Rattle.kern_types.proofs.Acts.{before_other, joined}
 use Rattle.kern_types.proofs.Checks.{passed_first, passed_then, reached}
-use Rattle.kern_types.proofs.Layers.{of_stmt, set_layer, give_layer, if_layer}
+use Rattle.kern_tree.proofs.Layers.{of_stmt, set_layer, give_layer, if_layer}
 use Rattle.kern_types.proofs.LawsOfStatements.{after_decls, all_contributions_fit}
 use Rattle.kern_types.proofs.Nodes.{slots_of_all, sum_more}
 
