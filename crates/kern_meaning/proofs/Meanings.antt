@@ -1,6 +1,5 @@
 -- What statements mean, by their forms.
-use Rattle.std.proofs.Common.{◌≡◌, ℕ, ◌+◌, ◌<◌, Bool, true, false, cond, List, [], ◌∷◌, ◌++◌, length, drop, get_or, Option, Result, Ok, Err, map, flat_map, refl, sym, ap, ◌∙◌, subst, arith, rules, append_assoc}
-use Rattle.std.specs.Prelude.{OnOk}
+use Rattle.std.proofs.Common.{◌≡◌, ℕ, ◌+◌, ◌<◌, Bool, true, false, cond, List, [], ◌∷◌, ◌++◌, length, drop, get_or, Option, Result, Ok, Err, map, flat_map, refl, sym, ap, ◌∙◌, subst, arith, rules}
 use Rattle.std.specs.List.{AllByRecursion}
 use Rattle.std.proofs.lemmas.List.{drop_more}
 use Rattle.kern_tree.specs.declared.expr.Expr.{Expr}
@@ -102,11 +101,11 @@ if_assigned act condition body others read read_other is same same_other =
     ∙ ap (λ names. names ++ flat_map (λ (ns : List (List ℕ)). ns) (map (of_stmt act_assigned stmt_assigned) others)) (all_assigned body) ∙ ap (λ names. assigned_in body ++ names) (all_assigned others)
     ∙ ap (λ b. assigned_in b ++ assigned_in others) (sym same) ∙ ap (λ b. assigned_in read ++ assigned_in b) (sym same_other)
 
-first_of : {X : Type 0} (P : X → Type 0) (xs ys : List X) → AllByRecursion P (xs ++ ys) → AllByRecursion P xs
+pub first_of : {X : Type 0} (P : X → Type 0) (xs ys : List X) → AllByRecursion P (xs ++ ys) → AllByRecursion P xs
 first_of P [] ys h = tt
 first_of P (x ∷ xs) ys h = (h.0, first_of P xs ys h.1)
 
-rest_of : {X : Type 0} (P : X → Type 0) (xs ys : List X) → AllByRecursion P (xs ++ ys) → AllByRecursion P ys
+pub rest_of : {X : Type 0} (P : X → Type 0) (xs ys : List X) → AllByRecursion P (xs ++ ys) → AllByRecursion P ys
 rest_of P [] ys h = h
 rest_of P (x ∷ xs) ys h = rest_of P xs ys h.1
 
@@ -116,14 +115,6 @@ module _ (names : List (List ℕ)) (values : List (Option Value)) (all xs ys : L
 
   pub places_rest : (later : List (Option Value)) → length later ≡ length values → HavePlaces names later ys
   places_rest later same = record { same = same ∙ h.same; each = rest_of (HasPlace names) xs ys (subst (λ (ns : List (List ℕ)). AllByRecursion (HasPlace names) ns) is h.each) }
-
--- ---- the depth of blocks
-
-pub block_smaller : (condition : Expr) (block other read : List Stmt) (act : Act) → act ≡ acts.If condition block other → read ≡ block → most (λ s. stmt_size s) read < act_size act
-block_smaller condition block other read act is same = rw (same, is) (search (rules, the_lemmas))
-
-pub other_smaller : (condition : Expr) (block other read : List Stmt) (act : Act) → act ≡ acts.If condition block other → read ≡ other → most (λ s. stmt_size s) read < act_size act
-other_smaller condition block other read act is same = rw (same, is) (search (rules, the_lemmas))
 
 -- ---- one statement of a block after another
 
@@ -156,12 +147,3 @@ act_in s = search (rules, the_lemmas)
 
 pub member_smaller : (block : List Stmt) (k : ℕ) (stmt : Stmt) → k < length block → stmt ≡ get_or block k stmt → act_size stmt.act < most (λ s. stmt_size s) block
 member_smaller block k stmt h e = omega (arith, act_in stmt, at_most (λ (s : Stmt). stmt_size s) block k stmt h, ap (λ (s : Stmt). stmt_size s) e)
-
--- ---- names that are pushed
-
-pub then_ok : {A E P Q : Type 0} (r : Result A E) → OnOk r P → (P → Q) → OnOk r Q
-then_ok (Ok a) h f = f h
-then_ok (Err e) h f = tt
-
-pub pushed : (old one two body others all : List (List ℕ)) → one ≡ old ++ body → all ≡ body ++ others → two ≡ one ++ others → two ≡ old ++ all
-pushed old one two body others all e f g = g ∙ ap (λ x. x ++ others) e ∙ append_assoc old body others ∙ ap (λ y. old ++ y) (sym f)

@@ -15,6 +15,7 @@ use Rattle.kern_tree.specs.declared.kernel.DeclKind.{DeclKind}
 use Rattle.kern_tree.specs.declared.kernel.DeclKind.TheVariants as declared_as
 use Rattle.kern_tree.specs.declared.kernel.Kind.{Kind}
 use Rattle.kern_types.specs.Names.{declaration}
+use Rattle.kern_types.proofs.Numbers.{named_same}
 use Rattle.kern_meaning.specs.declared.value.Value.{Value}
 use Rattle.kern_meaning.specs.declared.variable.Variable.{Variable}
 use Rattle.kern_meaning.specs.declared.variable.Variable.TheVariants as variables
@@ -74,9 +75,6 @@ got_other (y ∷ xs) zero zero x h = absurd (h refl)
 got_other (y ∷ xs) zero (suc j) x h = refl
 got_other (y ∷ xs) (suc k) zero x h = refl
 got_other (y ∷ xs) (suc k) (suc j) x h = got_other xs k j x (λ e. h (ap (λ n. suc n) e))
-
-named_same : (a b : List ℕ) → bytes_eq a b ≡ true → a ≡ b
-named_same a b e = (bytes_eq-Decides a b).0 e
 
 module _ (start : Known) (names : List (List ℕ)) (values : List (Option Value)) (name : List ℕ) (v : Value) (same : length values ≡ length names) (here : number_of names name < length names) where
   apart : (other : List ℕ) → bytes_eq name other ≡ false → number_of names other ≢ number_of names name

@@ -9,3 +9,4 @@ pub mod Nothing
 pub mod Numbers
 pub mod Scales
 pub mod SlotForces
+pub mod SlotTargets

@@ -12,36 +12,27 @@ use Rattle.kern_types.specs.declared.expr_type.ExprType.TheVariants.{Scaled}
 use Rattle.kern_types.specs.Declarations.{force_type}
 use Rattle.kern_types.specs.Names.{declaration}
 use Rattle.kern_types.specs.Scopes.{Scope}
-use Rattle.kern_types.specs.Statements.{act_after, at_stmt_place, stmt_after, stmts_after, contribution_check, if_check, act_slots, stmt_slots, slots_in, slots_in_act, act_targets, stmt_targets, targets_in}
+use Rattle.kern_types.specs.Statements.{act_after, at_stmt_place, stmt_after, stmts_after, contribution_check, if_check, act_slots, stmt_slots, slots_in, slots_in_act, act_targets, stmt_targets, targets_in, targets_in_act}
 use Rattle.kern_types.specs.Steps.{◌>>=◌}
 use Rattle.kern_types.specs.TypingLaws.{SlotsHaveForces}
 use Rattle.kern_types.specs.WellTyped.{at_start}
 use Rattle.kern_types.proofs.Acts.{before_other, joined}
 use Rattle.kern_types.proofs.Checks.{passed_first, passed_then, reached}
-use Rattle.kern_tree.proofs.Layers.{of_stmt, set_layer, give_layer, if_layer}
+use Rattle.kern_tree.proofs.Layers.{set_layer, give_layer, if_layer}
 use Rattle.kern_types.proofs.LawsOfStatements.{after_decls, all_contributions_fit}
 use Rattle.kern_types.proofs.Nodes.{slots_of_all, sum_more}
-
-abbrev Names : Type 0
-Names = List (List ℕ)
-
-abbrev targets_of : Act → Names
-targets_of = fold-Act Names Names act_targets stmt_targets
-
-targets_of_all : (block : List Stmt) → flat_map (λ (names : Names). names) (map (of_stmt act_targets stmt_targets) block) ≡ targets_in block
-targets_of_all [] = refl
-targets_of_all (s ∷ block) = ap (λ names. targets_of s.act ++ names) (targets_of_all block)
+use Rattle.kern_types.proofs.SlotTargets.{if_targets}
 
 -- ---- so many
 
 mutual
-  stmt_counted : {s : Stmt} → IsLimitedStmt s → length (targets_of s.act) ≡ slots_in_act s.act
+  stmt_counted : {s : Stmt} → IsLimitedStmt s → length (targets_in_act s.act) ≡ slots_in_act s.act
   stmt_counted (limits.set {place = p} {name = n} {value = v} h) = ap length (set_layer act_targets stmt_targets n v) ∙ sym (set_layer act_slots stmt_slots n v)
   stmt_counted (limits.give {place = p} {name = n} {value = v} h) = ap length (give_layer act_targets stmt_targets n v) ∙ sym (give_layer act_slots stmt_slots n v)
   stmt_counted (limits.conditional {place = p} {condition = c} {body = body} {others = others} h one two) =
       omega (
         arith,
-        ap length (if_layer act_targets stmt_targets c body others ∙ (λ i. targets_of_all body i ++ targets_of_all others i)),
+        ap length (if_targets c body others),
         length-append (targets_in body) (targets_in others),
         if_layer act_slots stmt_slots c body others,
         slots_of_all body,
@@ -53,7 +44,7 @@ mutual
   block_counted : {ss : List Stmt} → IsLimitedBlock ss → length (targets_in ss) ≡ slots_in ss
   block_counted limits.none = refl
   block_counted (limits.more {stmt = s} {stmts = ss} one others) =
-      omega (arith, length-append (targets_of s.act) (targets_in ss), sum_more (slots_in_act s.act) (map (λ (x : Stmt). slots_in_act x.act) ss), stmt_counted one, block_counted others)
+      omega (arith, length-append (targets_in_act s.act) (targets_in ss), sum_more (slots_in_act s.act) (map (λ (x : Stmt). slots_in_act x.act) ss), stmt_counted one, block_counted others)
 
 -- ---- each is one
 
@@ -66,7 +57,7 @@ module _ (decls : List Decl) where
   IsForce name = (type : ExprType) × (force_type (declaration decls name) ≡ Some type)
 
   mutual
-    stmt_gives : {s : Stmt} → IsLimitedStmt s → (scope after : Scope) → stmt_after decls s scope ≡ Ok after → AllByRecursion IsForce (targets_of s.act)
+    stmt_gives : {s : Stmt} → IsLimitedStmt s → (scope after : Scope) → stmt_after decls s scope ≡ Ok after → AllByRecursion IsForce (targets_in_act s.act)
     stmt_gives (limits.set {place = p} {name = n} {value = v} small) scope after e = subst (AllByRecursion IsForce) (sym (set_layer act_targets stmt_targets n v)) tt
     stmt_gives (limits.give {place = p} {name = n} {value = v} small) scope after e =
         let e1 = sym (ap (λ f. f p scope) (give_layer (act_after decls) at_stmt_place n v)) ∙ e in
@@ -77,14 +68,14 @@ module _ (decls : List Decl) where
         let e2 = passed_then (if_check decls p c scope) (stmts_after decls body scope >>= (λ first. stmts_after decls others (before_other scope first) >>= (λ second. Ok (joined first second)))) after e1 in
         let f = reached (stmts_after decls body scope) _ after e2 in
         let g = reached (stmts_after decls others (before_other scope f.value)) _ after f.then_is in
-        subst (AllByRecursion IsForce) (sym (if_layer act_targets stmt_targets c body others ∙ (λ i. targets_of_all body i ++ targets_of_all others i)))
+        subst (AllByRecursion IsForce) (sym (if_targets c body others))
         (both IsForce (targets_in body) (targets_in others) (block_gives one scope f.value f.is) (block_gives two (before_other scope f.value) g.value g.is))
 
     block_gives : {ss : List Stmt} → IsLimitedBlock ss → (scope after : Scope) → stmts_after decls ss scope ≡ Ok after → AllByRecursion IsForce (targets_in ss)
     block_gives limits.none scope after e = tt
     block_gives (limits.more {stmt = s} {stmts = ss} one others) scope after e =
         let r = reached (stmt_after decls s scope) (stmts_after decls ss) after e in
-        both IsForce (targets_of s.act) (targets_in ss) (stmt_gives one scope r.value r.is) (block_gives others r.value after r.then_is)
+        both IsForce (targets_in_act s.act) (targets_in ss) (stmt_gives one scope r.value r.is) (block_gives others r.value after r.then_is)
 
 pub have_forces : ParsedKernelsKeepLimits → SlotsHaveForces
 have_forces keep kernel parsed (end, e) = record {

@@ -172,9 +172,12 @@ act_targets (acts.If condition body others) = flat_map (λ names. names) body ++
 abbrev pub stmt_targets : Stmt-F (List (List ℕ)) (List (List ℕ)) → List (List ℕ)
 stmt_targets stmt = stmt.act
 
+abbrev pub targets_in_act : Act → List (List ℕ)
+targets_in_act = fold-Act (List (List ℕ)) (List (List ℕ)) act_targets stmt_targets
+
 -- the names that the `+=` in these statements give to, in text order
 abbrev pub targets_in : List Stmt → List (List ℕ)
-targets_in stmts = flat_map (λ stmt. fold-Act (List (List ℕ)) (List (List ℕ)) act_targets stmt_targets stmt.act) stmts
+targets_in stmts = flat_map (λ stmt. targets_in_act stmt.act) stmts
 
 -- the nodes of a statement but its own
 abbrev pub nodes_in_act : Act → List ℕ

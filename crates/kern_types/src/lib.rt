@@ -26,4 +26,4 @@ pub use laws::{
     names_keep_their_type, one_typing, scales_fit, scopes_only_grow, slots_have_forces,
 };
 pub use scope::Variable;
-pub use typed::{Typed, check, forces, kernel, slots};
+pub use typed::{Typed, check, forces, kernel, slots, targets};

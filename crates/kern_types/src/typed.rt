@@ -2,16 +2,17 @@ ghost use Rattle.std.specs.Prelude.{◌≡◌, ◌⊎◌, IfOk, IfErr, OnOk};
 ghost use Rattle.kern_tree.specs.Parsed.{IsParsed};
 ghost use Rattle.kern_types.specs.WellTyped.{WellTyped, HasFirstTypeFault};
 ghost use Rattle.kern_types.specs.Declarations as rules;
-ghost use Rattle.kern_types.specs.Statements.{slots_in};
+ghost use Rattle.kern_types.specs.Statements.{slots_in, targets_in};
 ghost use Rattle.kern_types.specs.declared.fault.TypeFault.TheVariants.{Memory};
 
-use crate::contributions::count_slots;
+use crate::contributions::{count_slots, targets_of};
 use crate::declarations::{check_decls, forces_of};
 use crate::scope::Scope;
 use crate::statements::check_block;
 use crate::{ForceVar, TypeFault};
+use kern_token::Name;
 use kern_tree::Kernel;
-use std::alloc::Global;
+use std::alloc::{AllocError, Global};
 use std::marker::Model;
 
 /// A kernel that is well typed.
@@ -83,4 +84,11 @@ pub fn slots(t: &Typed) -> u32
     ensures { result ≡ slots_in t.now.body }
 {
     t.slots
+}
+
+/// The name of the FORCE variable that each statement `+=` gives to, in text order.
+pub fn targets(alloc: Global, t: &Typed) -> Result<Vec<Name>, AllocError>
+    ensures { IfOk result (λ names. names.items ≡ targets_in t.now.body) }
+{
+    targets_of(alloc, t.kernel.body.as_slice())
 }

@@ -1,6 +1,6 @@
 use super::read;
 use kern_tree::{Combine, Kind};
-use kern_types::{TypeFault, Typed, check, forces, kernel, slots};
+use kern_types::{TypeFault, Typed, check, forces, kernel, slots, targets};
 use std::alloc::{AllocError, Global};
 use std::process::Abort;
 use std::test::Fail;
@@ -63,6 +63,19 @@ if mi == 9 {
 }
 ";
 
+const IN_BLOCKS: &str = "\
+EPI num S0 mi : mass;
+FORCE vec S16 acc sum;
+FORCE num S0 n sum;
+FORCE num S0 top max;
+if mi == 9 {
+  top += mi;
+} else {
+  n += mi;
+}
+top += 1;
+";
+
 #[test]
 fn a_typed_kernel_tells_its_forces_and_contributions(rt: HostRuntime) -> Result<(), Fail> {
     let alloc = rt.alloc();
@@ -88,6 +101,18 @@ fn a_typed_kernel_tells_its_forces_and_contributions(rt: HostRuntime) -> Result<
 #[test]
 fn a_contribution_in_a_block_is_one(rt: HostRuntime) -> Result<(), Fail> {
     is_typed(&rt, rt.alloc(), A_CONDITION, 2, 1)
+}
+
+#[test]
+fn each_contribution_has_a_target_in_text_order(rt: HostRuntime) -> Result<(), Fail> {
+    let alloc = rt.alloc();
+    let t = typed(&rt, alloc, IN_BLOCKS)??;
+    let names = targets(alloc, &t)?;
+    assert_eq!(rt; (names.len(), slots(&t)), (3, 3));
+    assert_eq!(rt; names[0].as_bytes(), b"top".as_slice());
+    assert_eq!(rt; names[1].as_bytes(), b"n".as_slice());
+    assert_eq!(rt; names[2].as_bytes(), b"top".as_slice());
+    Ok(())
 }
 
 #[test]

@@ -1,5 +1,6 @@
 use Rattle.kern_meaning.specs.Walks.{assigned_by, assigned_in}
-use Rattle.kern_meaning.proofs.Meanings.{if_assigned, pushed, then_ok}
+use Rattle.kern_types.proofs.SlotTargets.{pushed, then_ok}
+use Rattle.kern_meaning.proofs.Meanings.{if_assigned}
 use Rattle.kern_meaning.proofs.prepare.+assigned.Goals as goal
 
 pub push_assigned_by-returns-in_ok-push_assigned-in-If : goal.push_assigned_by-returns-in_ok-push_assigned-in-If

@@ -4,7 +4,8 @@ use Rattle.kern_meaning.specs.Links.{assigned}
 use Rattle.kern_meaning.specs.Names.{known_at_start}
 use Rattle.kern_meaning.specs.Pair.{at_statement}
 use Rattle.kern_meaning.specs.Walks.{pair_state, assigned_by, assigned_in}
-use Rattle.kern_meaning.proofs.Meanings.{then_runs, then_stops, else_runs, if_counts, if_slots, if_assigned, places_first, places_rest, block_smaller, other_smaller, member_smaller, next_is, next_count, next_slots, block_stops, block_goes_on}
+use Rattle.kern_types.proofs.Acts.{block_smaller, other_smaller}
+use Rattle.kern_meaning.proofs.Meanings.{then_runs, then_stops, else_runs, if_counts, if_slots, if_assigned, places_first, places_rest, member_smaller, next_is, next_count, next_slots, block_stops, block_goes_on}
 use Rattle.kern_meaning.proofs.LinkLemmas.{then_links, else_links, set_runs, own_links, later_links}
 use Rattle.kern_meaning.proofs.statement.Walk.+statements.Goals as goal
 
