@@ -1,6 +1,5 @@
 -- The declared variables of a typed kernel have values of their kinds and scales.
-use Rattle.std.proofs.Common.{◌≡◌, ℕ, ◌≤◌, Bool, true, false, ◌&&◌, List, [], ◌∷◌, ℤ, Option, Some, None, Ok, Err, cond, find, bytes_eq, option_map, refl, sym, ap, ◌∙◌, subst}
-use Rattle.std.specs.List.{AllByRecursion}
+use Rattle.std.proofs.Common.{◌≡◌, ℕ, Bool, true, false, ◌&&◌, List, [], ◌∷◌, ℤ, Option, Some, None, cond, find, bytes_eq, option_map, refl, sym, ap, ◌∙◌}
 use Rattle.pf_model.specs.declared.field.Field as ours
 use Rattle.pf_model.specs.Fields.{along_each_axis, field_of_particle, field_of_source}
 use Rattle.pf_model.specs.Particle.{Particle}
@@ -11,34 +10,19 @@ use Rattle.kern_tree.specs.declared.kernel.DeclKind.TheVariants as declared_as
 use Rattle.kern_tree.specs.declared.kernel.Kernel.{Kernel}
 use Rattle.kern_tree.specs.declared.kernel.Kind.{Kind}
 use Rattle.kern_tree.specs.declared.kernel.Kind.TheVariants as kinds
-use Rattle.kern_tree.specs.Limits.{HasLimitedScale, scale_declared}
 use Rattle.kern_types.specs.declared.expr_type.ExprType.TheVariants as types
-use Rattle.kern_types.specs.declared.fault.TypeFault.{TypeFault}
 use Rattle.kern_types.specs.declared.fields.Field as theirs
 use Rattle.kern_types.specs.Declarations.{same_kind, fits_scale, field_check, what_check}
 use Rattle.kern_types.specs.Fields as types_table
 use Rattle.kern_types.specs.Fields.{there}
 use Rattle.kern_types.specs.Names.{declaration, declared_type}
-use Rattle.kern_types.specs.Steps.{OrFault, ◌>>◌, Check, pass, unless}
+use Rattle.kern_types.specs.Steps.{pass, unless}
 use Rattle.kern_types.specs.TypingLaws.{DeclarationsFit}
 use Rattle.kern_types.specs.WellTyped.{WellTyped}
 use Rattle.kern_meaning.specs.Names.{fields_by_name, field_named, field_kind, scale_of, particle_has, source_has, fits, variable_value, declared_value, name_value}
 use Rattle.kern_meaning.specs.Values.{type_of_value, value_of_kind}
+use Rattle.kern_types.proofs.Checks.{passed_first, passed_then, tested}
 use Rattle.kern_meaning.proofs.Fits.{Fits, FitsAs}
-
--- ---- checks, one after another
-
-pub passed_first : (first : Check) {A : Type 0} (next : OrFault A) (value : A) → (first >> next) ≡ Ok value → first ≡ pass
-passed_first (Ok tt) next value e = refl
-passed_first (Err fault) next value e = absurd (let no : ⊥ = cc in no)
-
-pub passed_then : (first : Check) {A : Type 0} (next : OrFault A) (value : A) → (first >> next) ≡ Ok value → next ≡ Ok value
-passed_then (Ok tt) next value e = e
-passed_then (Err fault) next value e = absurd (let no : ⊥ = cc in no)
-
-pub tested : (test : Bool) (fault : TypeFault) → unless test fault ≡ pass → test ≡ true
-tested true fault e = refl
-tested false fault e = absurd (let no : ⊥ = cc in no)
 
 -- ---- the two tables of fields
 
@@ -92,12 +76,12 @@ both true true false e f g = absurd (let no : ⊥ = cc in no)
 both true false c e f g = absurd (let no : ⊥ = cc in no)
 both false b c e f g = absurd (let no : ⊥ = cc in no)
 
-present : (test : Bool) (kind : Kind) (scale : ℕ) (mantissas : List ℤ) → test ≡ true → scale ≤ 62
+present : (test : Bool) (kind : Kind) (scale : ℕ) (mantissas : List ℤ) → test ≡ true
     → FitsAs (types.Scaled kind scale) (name_value (cond test (Some (value_of_kind kind scale mantissas)) None))
-present true kind scale m e h = (kind_typed kind scale m, h)
-present false kind scale m e h = absurd (let no : ⊥ = cc in no)
+present true kind scale m e = kind_typed kind scale m
+present false kind scale m e = absurd (let no : ⊥ = cc in no)
 
-module _ (place : ℕ) (kind : Kind) (scale : ℕ) (bound : scale ≤ 62) (has : ours.Field → Bool) (parts : ours.Field → List ℤ) where
+module _ (place : ℕ) (kind : Kind) (scale : ℕ) (has : ours.Field → Bool) (parts : ours.Field → List ℤ) where
   one_fits : (row : theirs.Field) (field : ours.Field) (own : Bool) → own ≡ has field → Alike row field → field_check place kind scale (cond own (Some row) None) ≡ pass
       → FitsAs (types.Scaled kind scale) (name_value (variable_value kind scale has parts (Some field)))
   one_fits row field false e h checked = absurd (let no : ⊥ = cc in no)
@@ -106,7 +90,7 @@ module _ (place : ℕ) (kind : Kind) (scale : ℕ) (bound : scale ≤ 62) (has :
       let right_scale = tested (fits_scale row.scale scale) _ (passed_then (unless (same_kind row.kind kind) _) (unless (fits_scale row.scale scale) _) tt checked) in
       present (has field && fits kind scale field) kind scale (along_each_axis (parts field))
       (both (has field) (same_kind (field_kind field) kind) (fits_scale (scale_of field) scale) (sym e)
-      (ap (λ k. same_kind k kind) (sym h.kind) ∙ right_kind) (ap (λ s. fits_scale s scale) (sym h.scale) ∙ right_scale)) bound
+      (ap (λ k. same_kind k kind) (sym h.kind) ∙ right_kind) (ap (λ s. fits_scale s scale) (sym h.scale) ∙ right_scale))
 
   some_fits : (row : Option theirs.Field) (field : Option ours.Field) (test : theirs.Field → Bool) → ((r : theirs.Field) (f : ours.Field) → Alike r f → test r ≡ has f) → BothAlike row field
       → field_check place kind scale (there test row) ≡ pass → FitsAs (types.Scaled kind scale) (name_value (variable_value kind scale has parts field))
@@ -120,21 +104,13 @@ module _ (i : Particle) (j : Source) where
   abbrev pub DeclFits : Decl → Type 0
   DeclFits decl = (place : ℕ) → Fits (declared_type place decl.what) (name_value (declared_value i j decl.what))
 
-  what_fits : (at : ℕ) (what : DeclKind) → what_check at what ≡ pass → scale_declared what ≤ 62 → (place : ℕ) → Fits (declared_type place what) (name_value (declared_value i j what))
-  what_fits at (declared_as.Epi kind scale name) checked bound place =
-      some_fits at kind scale bound particle_has (λ x. field_of_particle x i) (types_table.field_called name) (field_named name) (λ r. r.epi) (λ r f h. h.epi) (found_alike name types_table.fields fields_by_name tables_alike) checked
-  what_fits at (declared_as.Epj kind scale name) checked bound place =
-      some_fits at kind scale bound source_has (λ x. field_of_source x j) (types_table.field_called name) (field_named name) (λ r. r.epj) (λ r f h. h.epj) (found_alike name types_table.fields fields_by_name tables_alike) checked
-  what_fits at (declared_as.Param scale mantissa) checked bound place = (refl, bound)
-  what_fits at (declared_as.Force kind scale combine) checked bound place = tt
+  what_fits : (at : ℕ) (what : DeclKind) → what_check at what ≡ pass → (place : ℕ) → Fits (declared_type place what) (name_value (declared_value i j what))
+  what_fits at (declared_as.Epi kind scale name) checked place =
+      some_fits at kind scale particle_has (λ x. field_of_particle x i) (types_table.field_called name) (field_named name) (λ r. r.epi) (λ r f h. h.epi) (found_alike name types_table.fields fields_by_name tables_alike) checked
+  what_fits at (declared_as.Epj kind scale name) checked place =
+      some_fits at kind scale source_has (λ x. field_of_source x j) (types_table.field_called name) (field_named name) (λ r. r.epj) (λ r f h. h.epj) (found_alike name types_table.fields fields_by_name tables_alike) checked
+  what_fits at (declared_as.Param scale mantissa) checked place = refl
+  what_fits at (declared_as.Force kind scale combine) checked place = tt
 
-  found_limited : (test : Bool) (d : Decl) (rest : Option Decl) (decl : Decl) → cond test (Some d) rest ≡ Some decl → HasLimitedScale d → (rest ≡ Some decl → HasLimitedScale decl) → HasLimitedScale decl
-  found_limited true d rest decl e h k = subst HasLimitedScale (let same : d ≡ decl = cc in same) h
-  found_limited false d rest decl e h k = k e
-
-  limited : (decls : List Decl) → AllByRecursion HasLimitedScale decls → (name : List ℕ) (decl : Decl) → declaration decls name ≡ Some decl → HasLimitedScale decl
-  limited [] bounds name decl e = absurd (let no : ⊥ = cc in no)
-  limited (d ∷ ds) bounds name decl e = found_limited (bytes_eq d.name name) d (declaration ds name) decl e bounds.0 (limited ds bounds.1 name decl)
-
-  pub declared_fit : DeclarationsFit → (kernel : Kernel) → WellTyped kernel → AllByRecursion HasLimitedScale kernel.decls → (name : List ℕ) (decl : Decl) → declaration kernel.decls name ≡ Some decl → DeclFits decl
-  declared_fit fit kernel typed bounds name decl e = what_fits decl.place decl.what (fit kernel typed name decl e) (limited kernel.decls bounds name decl e)
+  pub declared_fit : DeclarationsFit → (kernel : Kernel) → WellTyped kernel → (name : List ℕ) (decl : Decl) → declaration kernel.decls name ≡ Some decl → DeclFits decl
+  declared_fit fit kernel typed name decl e = what_fits decl.place decl.what (fit kernel typed name decl e)

@@ -17,7 +17,7 @@ pub passed_then : (first : Check) {A : Type 0} (next : OrFault A) (value : A) �
 passed_then (Ok tt) next value e = e
 passed_then (Err fault) next value e = absurd (let no : ⊥ = cc in no)
 
-tested : (test : Bool) (fault : TypeFault) → unless test fault ≡ pass → test ≡ true
+pub tested : (test : Bool) (fault : TypeFault) → unless test fault ≡ pass → test ≡ true
 tested true fault e = refl
 tested false fault e = absurd (let no : ⊥ = cc in no)
 

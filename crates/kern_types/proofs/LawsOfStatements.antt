@@ -36,10 +36,11 @@ module _ (decls : List Decl) (place : ℕ) (name : List ℕ) (value : Expr) (sco
     pub kind : Kind
     pub scale : ℕ
     pub typed : type_of decls scope value ≡ Ok (types.Scaled kind scale)
+    pub undeclared : target_check place (what_declares (declaration decls name)) ≡ pass
     pub again : again_check place kind scale (earlier_assignment scope.earlier name) ≡ pass
     pub ends : after ≡ with_assigned scope name kind scale
 
-  is_assignment : assignment_after decls place name value scope ≡ Ok after → IsAssignment
+  pub is_assignment : assignment_after decls place name value scope ≡ Ok after → IsAssignment
   is_assignment e = of_type r.value r.is r.then_is where
     r : Reached (type_of decls scope value) (λ type. set_after decls place name type scope) after
     r = reached (type_of decls scope value) (λ type. set_after decls place name type scope) after e
@@ -53,6 +54,7 @@ module _ (decls : List Decl) (place : ℕ) (name : List ℕ) (value : Expr) (sco
           kind = kind;
           scale = scale;
           typed = is;
+          undeclared = passed_first (target_check place (what_declares (declaration decls name))) (again_check place kind scale (earlier_assignment scope.earlier name)) tt checked;
           again = passed_then (target_check place (what_declares (declaration decls name))) (again_check place kind scale (earlier_assignment scope.earlier name)) tt checked;
           ends = let same : after ≡ with_assigned scope name kind scale = cc in same;
         }
