@@ -3,15 +3,13 @@
 // outside.
 #![tactic(auto)]
 
-mod bodies;
 mod counts;
 mod fault;
-mod generator;
 
 ghost use Rattle.std.specs.Prelude.{◌≤◌, IfOk};
 
 use anyhow::{Context, bail};
-use bodies::particles;
+use bench_input::particles;
 use counts::counts_of;
 use pf_model::MOST_PARTICLES;
 use std::env;

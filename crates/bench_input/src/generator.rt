@@ -1,5 +1,5 @@
 ghost use Rattle.std.specs.Prelude.{◌≡◌, ◌^◌, ◌<◌};
-ghost use Rattle.list_bench.specs.Generator.{next_state, coordinate};
+ghost use Rattle.bench_input.specs.Generator.{next_state, coordinate};
 
 /// The generator of the benchmark's numbers, a linear congruential one.
 #[derive(Drop)]

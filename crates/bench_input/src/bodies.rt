@@ -1,6 +1,6 @@
 ghost use Rattle.std.specs.Prelude.{◌≡◌, ◌+◌, ◌*◌, ◌<◌, ◌≤◌, IfOk};
 ghost use Rattle.pf_model.specs.Particles.{AreBodies};
-ghost use Rattle.list_bench.specs.Generator.{state_after, particle, particles};
+ghost use Rattle.bench_input.specs.Generator.{state_after, particle, particles};
 
 use crate::generator::Generator;
 use pf_geom::Point;

@@ -1,7 +1,7 @@
 use Rattle.std.proofs.Common.{◌≡◌, ◌+◌, ◌-◌, ◌*◌, sym, ap, ◌∙◌, arith}
-use Rattle.list_bench.specs.Generator.{next_state, state_after, coordinate}
-use Rattle.list_bench.proofs.DrawLemmas.{state_after_more}
-use Rattle.list_bench.proofs.bodies.particle.Goals as goal
+use Rattle.bench_input.specs.Generator.{next_state, state_after, coordinate}
+use Rattle.bench_input.proofs.DrawLemmas.{state_after_more}
+use Rattle.bench_input.proofs.bodies.particle.Goals as goal
 
 x_state : (c : goal.After-draw-3) → c.draw.new.self.state ≡ state_after c.args.seed (3 * (c.args.before + 1) - 2)
 x_state c =

@@ -1,9 +1,9 @@
 use Rattle.std.proofs.Common.{◌+◌, ◌∷◌, ◌++◌, [], sym, ap, ◌∙◌, subst, arith}
 use Rattle.std.proofs.lemmas.List.FromFn.{map-range_with_len_more}
 use Rattle.pf_model.specs.Particles.{AreBodies}
-use Rattle.list_bench.specs.Generator.{particle, particles}
-use Rattle.list_bench.proofs.DrawLemmas.{state_after_none, AreBodies-particles}
-use Rattle.list_bench.proofs.bodies.particles.Goals as goal
+use Rattle.bench_input.specs.Generator.{particle, particles}
+use Rattle.bench_input.proofs.DrawLemmas.{state_after_none, AreBodies-particles}
+use Rattle.bench_input.proofs.bodies.particles.Goals as goal
 
 pub loop-before-init : goal.loop-before-init
 loop-before-init c = record { made = c.in_ok-bodies.ensures.items; state = state_after_none c.args.seed }

@@ -1,6 +1,6 @@
 use Rattle.std.proofs.Common.{◌≡◌, ◌*◌}
-use Rattle.list_bench.specs.Generator.{state_after, particles}
-use Rattle.list_bench.proofs.bodies.particles.Given as goal
+use Rattle.bench_input.specs.Generator.{state_after, particles}
+use Rattle.bench_input.proofs.bodies.particles.Given as goal
 
 abbrev pub invariant-loop-before : goal.invariant-loop-before
 invariant-loop-before l = record {

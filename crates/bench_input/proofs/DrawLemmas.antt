@@ -6,7 +6,7 @@ use Rattle.std.proofs.lemmas.Bool.Decides.{Decides-eqb}
 use Rattle.std.proofs.lemmas.List.FromFn.{length-range_with_len, get_or-range_with_len, length-map-range_with_len}
 use Rattle.std.proofs.lemmas.Map.Made.{IsDistinct-from_AllPairs}
 use Rattle.pf_model.specs.Particles.{AreBodies}
-use Rattle.list_bench.specs.Generator.{next_state, state_after, particle, particles}
+use Rattle.bench_input.specs.Generator.{next_state, state_after, particle, particles}
 
 pub state_after_none : (seed : ℕ) → seed ≡ state_after seed 0
 unfolding state_after
