@@ -1,1 +1,5 @@
 mod DrawLemmas
+mod Pieces
+mod Reading
+mod Tree
+mod Types

@@ -1,9 +1,10 @@
-ghost use Rattle.std.specs.Prelude.{IfOk};
+ghost use Rattle.std.specs.Prelude.{◌≡◌, IfOk};
 ghost use Rattle.bench_input.specs.Kernel.{IsBenchKernel};
 
+use crate::laws::bench_text_is_a_kernel;
 use kern_parse::parse;
-use kern_token::tokens;
-use kern_types::{Typed, check};
+use kern_token::{KernFault, tokens};
+use kern_types::{TypeFault, Typed, check, one_typing};
 use pf_num::OutOfMemory;
 use std::alloc::Global;
 
@@ -24,11 +25,36 @@ acc += muldiv(muldiv(g, mj, r), d, r2);
 pub fn kernel(alloc: Global) -> Result<Typed, OutOfMemory>
     ensures { IfOk result IsBenchKernel }
 {
-    let Ok(tokens) = tokens(alloc, TEXT) else {
-        return Err(OutOfMemory);
+    bench_text_is_a_kernel();
+    one_typing();
+    let tokens = match tokens(alloc, TEXT) {
+        Ok(tokens) => tokens,
+        Err(fault) => return Err(no_other_fault(fault)),
     };
-    let Ok(kernel) = parse(alloc, &tokens) else {
-        return Err(OutOfMemory);
+    let kernel = match parse(alloc, &tokens) {
+        Ok(kernel) => kernel,
+        Err(fault) => return Err(no_other_fault(fault)),
     };
-    check(alloc, kernel).map_err(|_| OutOfMemory)
+    match check(alloc, kernel) {
+        Ok(typed) => Ok(typed),
+        Err(fault) => Err(no_other_type_fault(fault)),
+    }
+}
+
+fn no_other_fault(fault: KernFault) -> OutOfMemory
+    requires { fault ≡ KernFault.Memory }
+{
+    match fault {
+        KernFault::Memory => OutOfMemory,
+        _ => unreachable!(),
+    }
+}
+
+fn no_other_type_fault(fault: TypeFault) -> OutOfMemory
+    requires { fault ≡ TypeFault.Memory }
+{
+    match fault {
+        TypeFault::Memory => OutOfMemory,
+        _ => unreachable!(),
+    }
 }

@@ -11,4 +11,4 @@ mod laws;
 pub use bodies::particles;
 pub use deck::{DT, GROUP, REUSE, STEPS, grid, theta};
 pub use kernel_text::kernel;
-pub use laws::bench_kernels_are_one;
+pub use laws::{bench_kernels_are_one, bench_text_is_a_kernel};
