@@ -1,4 +1,3 @@
-mod ListsLemmas
 mod GroupsLemmas
 mod PullLemmas
 mod OrderLemmas

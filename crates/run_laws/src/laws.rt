@@ -8,8 +8,8 @@ ghost use Rattle.run_laws.specs.ThinText.{ThinTextsAreThinDumps};
 ghost use Rattle.run_laws.specs.ThinLaws.{ListsWithoutCellsAreParticles, FewParticlesAreOneGroup};
 
 use model_laws::{
-    group_levels_are_least, orders_by_id_have_distinct_ids, orders_by_id_keep_particles,
-    particles_of_one_id_are_one,
+    group_levels_are_least, lists_of_near_are_particles, nothing_passes_at_zero,
+    orders_by_id_have_distinct_ids, orders_by_id_keep_particles, particles_of_one_id_are_one,
 };
 use pf_geom::positions_have_cells;
 use run_model::lone_ranks_build_so;
@@ -17,7 +17,10 @@ use run_model::lone_ranks_build_so;
 /// Where theta is 0, the list of any box is all particles, by id.
 pub fn lists_without_cells_are_particles()
     ensures { ListsWithoutCellsAreParticles }
-{}
+{
+    lists_of_near_are_particles();
+    nothing_passes_at_zero();
+}
 
 /// Particles that are no more than the limit are one group, whose cell is the cube.
 pub fn few_particles_are_one_group()
