@@ -1,8 +1,8 @@
 -- The ends of cells' spans, by the keys of particles in order.
-use Rattle.std.proofs.Common.{◌≡◌, ℕ, zero, suc, ◌+◌, ◌-◌, ◌*◌, ◌/◌, ◌%◌, ◌^◌, ◌<◌, ◌≤◌, Bool, true, false, cond, List, [], ◌∷◌, length, get_or, map, take, drop, inl, inr, refl, sym, ◌∙◌, ap, subst, arith, ltb}
+use Rattle.std.proofs.Common.{◌≡◌, ℕ, suc, ◌+◌, ◌-◌, ◌*◌, ◌/◌, ◌^◌, ◌<◌, ◌≤◌, Bool, true, false, cond, List, [], ◌∷◌, length, get_or, map, take, drop, inl, inr, refl, sym, ◌∙◌, ap, subst, arith, ltb}
 use Rattle.std.specs.List.{count_by}
 use Rattle.std.specs.List.Sorted.{IsNonDecreasing, IsPartitionPoint}
-use Rattle.std.proofs.Math.Nat.{pow-suc, pow-le-pow_right, div-lt_iff_lt-mul, mul-le-mul_right, mod-eq_of_lt}
+use Rattle.std.proofs.Math.Nat.{pow-suc, pow-le-pow_right, div-lt_iff_lt-mul, mul-le-mul_right}
 use Rattle.std.proofs.lemmas.Nat.{pow-add, div_below}
 use Rattle.std.proofs.lemmas.Bool.{cases_lt, lt-ltb, le-ltb}
 use Rattle.std.proofs.lemmas.List.{length-map, length-take-le, length-drop, get_or-map, get_or-take, get_or-drop}
@@ -11,7 +11,7 @@ use Rattle.std.proofs.lemmas.List.Sorted.{IsPartitionedBy-ltb}
 use Rattle.pf_geom.specs.Key.{morton_key}
 use Rattle.pf_geom.specs.Position.{Position}
 use Rattle.pf_geom.specs.Octant.{Octant, IsOctant, cell_at, ancestor_at}
-use Rattle.pf_geom.specs.CellLaws.{CellsOfAPositionNest}
+use Rattle.pf_geom.specs.CellLaws.{LevelsTakeThreeBits, CellsOfAPositionNest}
 use Rattle.pf_model.specs.Particle.{Particle}
 use Rattle.pf_model.specs.Group.{particles_in}
 use Rattle.morton_tree.specs.declared.span.Span.{Span}
@@ -155,31 +155,12 @@ span_inside t c s tree is =
 pub members_of_span : (t : Octree) (c : Octant) (s : Span) → IsOctree t → s ≡ span_of c t.built → at_span s t.built ≡ particles_in c t.built
 members_of_span t c s tree is = ap (λ (r : Span). at_span r t.built) is ∙ span_members c t.built tree.ordered
 
--- a shift to the keys of a cell loses no bit
-pub eight_pow : (n : ℕ) → 2 ^ (3 * n) ≡ 8 ^ n
-eight_pow zero = refl
-eight_pow (suc n) =
-    let place : 3 * suc n ≡ 3 * n + 3 = omega arith in
-    let step : 2 ^ (3 * suc n) ≡ 2 ^ (3 * n) * 8 = ap (λ e. 2 ^ e) place ∙ pow-add 2 (3 * n) 3 in
-    step ∙ ap (λ m. m * 8) (eight_pow n) ∙ sym (pow-suc 8 n)
-
 -- the keys of a level are few
 pub past_fits : (level key : ℕ) → IsOctant level key → key + 1 ≤ 2 ^ 90
 past_fits level key h =
     let powers : 8 ^ level ≤ 8 ^ 30 = pow-le-pow_right {n = 8} (omega arith) h.level_fits in
     let small = h.key_fits in
     omega arith
-
-pub shifted : (level key n : ℕ) → IsOctant level key → n ≤ key + 1 → n * 2 ^ (3 * (30 - level)) % 2 ^ 128 ≡ n * 8 ^ (30 - level)
-shifted level key n h least =
-    let width = 8 ^ (30 - level) in
-    let shallow = h.level_fits in
-    let whole : level + (30 - level) ≡ 30 = omega arith in
-    let fill : 8 ^ level * width ≡ 8 ^ 30 = sym (pow-add 8 level (30 - level)) ∙ ap (λ e. 8 ^ e) whole in
-    let below : n ≤ 8 ^ level = (let fits = h.key_fits in omega arith) in
-    let most : n * width ≤ 8 ^ level * width = mul-le-mul_right width below in
-    let power : 2 ^ (3 * (30 - level)) ≡ width = eight_pow (30 - level) in
-    ap (λ (w : ℕ). n * w % 2 ^ 128) power ∙ mod-eq_of_lt (omega arith)
 
 pub child_in_parent : (c : Octant) (k : ℕ) (js : List Particle) → c.level < 30 → k < 8 → IsWithin (span_of (child_of c k) js) (span_of c js)
 child_in_parent c k js shallow low = span_in_above (child_of c k) c js refl (omega arith) (omega arith)
@@ -193,8 +174,8 @@ next_cell_within p level js shallow =
     span_in_above (cell_at p (level + 1)) (cell_at p level) js refl (omega arith) (parent_key level (record nobody { at = p }) shallow)
 
 -- the cell of a lower level is one
-pub ancestor_fits : (level own key : ℕ) → IsOctant own key → level ≤ own → IsOctant level (key / 2 ^ (3 * (own - level)))
-ancestor_fits level own key h above =
+pub ancestor_fits : LevelsTakeThreeBits → (level own key : ℕ) → IsOctant own key → level ≤ own → IsOctant level (key / 2 ^ (3 * (own - level)))
+ancestor_fits bits level own key h above =
     let width = 8 ^ (own - level) in
     let deep = h.level_fits in
     let fits = h.key_fits in
@@ -202,5 +183,5 @@ ancestor_fits level own key h above =
     let fill : 8 ^ level * width ≡ 8 ^ own = sym (pow-add 8 level (own - level)) ∙ ap (λ e. 8 ^ e) whole in
     record {
       level_fits = omega arith;
-      key_fits = subst (λ (w : ℕ). key / w < 8 ^ level) (sym (eight_pow (own - level))) (div_below key width (8 ^ level) (eight_pos (own - level)) (omega arith));
+      key_fits = subst (λ (w : ℕ). key / w < 8 ^ level) (sym (bits (own - level))) (div_below key width (8 ^ level) (eight_pos (own - level)) (omega arith));
     }

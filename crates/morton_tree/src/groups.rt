@@ -8,8 +8,8 @@ ghost use Rattle.morton_tree.specs.Groups.{group_in, groups_of, IsGroup};
 use crate::group::Group;
 use crate::span::Span;
 use crate::tree::Tree;
-use pf_geom::{Cell, DEEPEST, Point, cell_of, cells_of_a_position_nest};
 use model_laws::{group_levels_are_least, positions_share_their_group};
+use pf_geom::{Cell, DEEPEST, Point, cell_of, cells_of_a_position_nest, levels_take_three_bits};
 use pf_model::{Body, MOST_GROUP, box_of};
 use pf_num::OutOfMemory;
 use std::alloc::Global;
@@ -85,6 +85,7 @@ fn ancestor(c: Cell, level: u32) -> Cell
     requires { level ≤ c.level }
     ensures { result ≡ ancestor_at c level }
 {
+    levels_take_three_bits();
     Cell {
         level,
         key: c.key >> (3 * (c.level - level)),

@@ -10,7 +10,7 @@ ghost use Rattle.morton_tree.specs.Spans.{at_span, span_of, child_of, child_span
 use crate::sorting::in_order;
 use crate::span::Span;
 use moments::{Prefix, prefix_of};
-use pf_geom::{Cell, DEEPEST};
+use pf_geom::{Cell, DEEPEST, shifted_keys_fit};
 use pf_model::{Body, Moment};
 use pf_num::OutOfMemory;
 use std::alloc::Global;
@@ -177,6 +177,7 @@ fn key_range(c: Cell) -> (u128, u128)
     ensures least { result.0 ≡ c.key * 8 ^ (DEEPEST - c.level) }
     ensures past { result.1 ≡ (c.key + 1) * 8 ^ (DEEPEST - c.level) }
 {
+    shifted_keys_fit();
     let shift = 3 * (DEEPEST - c.level);
     (c.key << shift, (c.key + 1) << shift)
 }

@@ -1,6 +1,6 @@
 -- Cells by their keys and by their floored coordinates.
-use Rattle.std.proofs.Common.{◌≡◌, ℕ, zero, suc, ◌+◌, ◌-◌, ◌*◌, ◌/◌, ◌^◌, ◌<◌, ◌≤◌, refl, sym, ap, ◌∙◌, subst, arith}
-use Rattle.std.proofs.Math.Nat.{mul_comm, div-div-eq-div-mul, div-mul-le_self, lt-mul-div-succ, div-eq_of_lt-le, pow-suc}
+use Rattle.std.proofs.Common.{◌≡◌, ℕ, zero, suc, ◌+◌, ◌-◌, ◌*◌, ◌/◌, ◌%◌, ◌^◌, ◌<◌, ◌≤◌, refl, sym, ap, ◌∙◌, subst, arith}
+use Rattle.std.proofs.Math.Nat.{mul_comm, div-div-eq-div-mul, div-mul-le_self, lt-mul-div-succ, div-eq_of_lt-le, pow-suc, mul-le-mul_right, mod-eq_of_lt}
 use Rattle.std.proofs.lemmas.Nat.{pow_pos, pow-add, div_below}
 use Rattle.pf_geom.specs.Position.{Position, IsPosition}
 use Rattle.pf_geom.specs.Key.{morton_key}
@@ -102,3 +102,11 @@ eight_pow (suc n) =
     let place : 3 * suc n ≡ 3 * n + 3 = omega arith in
     let step : 2 ^ (3 * suc n) ≡ 2 ^ (3 * n) * 8 = ap (λ e. 2 ^ e) place ∙ pow-add 2 (3 * n) 3 in
     step ∙ ap (λ m. m * 8) (eight_pow n) ∙ sym (pow-suc 8 n)
+
+-- shifted to the deepest level, a key of a level loses no bit
+pub shifted : (level key : ℕ) → level ≤ 30 → key ≤ 8 ^ level → key * 2 ^ (3 * (30 - level)) % 2 ^ 128 ≡ key * 8 ^ (30 - level)
+shifted level key within few =
+    let width = 8 ^ (30 - level) in
+    let fill = keys_fill level within in
+    let most : key * width ≤ 8 ^ level * width = mul-le-mul_right width few in
+    ap (λ (w : ℕ). key * w % 2 ^ 128) (eight_pow (30 - level)) ∙ mod-eq_of_lt (omega arith)

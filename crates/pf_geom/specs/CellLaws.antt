@@ -1,5 +1,5 @@
 -- Laws of keys and cells.
-use Rattle.std.specs.Prelude.{◌≡◌, ℕ, ◌+◌, ◌-◌, ◌*◌, ◌^◌, ◌<◌, ◌≤◌, ◌↔◌}
+use Rattle.std.specs.Prelude.{◌≡◌, ℕ, ◌+◌, ◌-◌, ◌*◌, ◌%◌, ◌^◌, ◌<◌, ◌≤◌, ◌↔◌}
 use Rattle.pf_geom.specs.declared.cell.TheConstants.{DEEPEST}
 use Rattle.pf_geom.specs.Position.{Position, IsPosition}
 use Rattle.pf_geom.specs.Bounds.{IsBox, IsInBox}
@@ -24,6 +24,16 @@ abbrev pub CellsHaveEqualFloors : Type 0
 CellsHaveEqualFloors =
     (p x : Position) (level : ℕ) → IsPosition p → IsPosition x → level ≤ DEEPEST → IsIn p (cell_at x level) ↔
     HaveEqualFloors level p x
+
+-- a level takes three bits of a key: what is shifted by them is multiplied or divided by a power of 8
+abbrev pub LevelsTakeThreeBits : Type 0
+LevelsTakeThreeBits = (levels : ℕ) → 2 ^ (3 * levels) ≡ 8 ^ levels
+
+-- a key of a level, or the one past them all, loses no bit where it is shifted to the deepest level, in 128 bits
+abbrev pub ShiftedKeysFit : Type 0
+ShiftedKeysFit =
+    (level key : ℕ) → level ≤ DEEPEST → key ≤ 8 ^ level →
+    key * 2 ^ (3 * (DEEPEST - level)) % 2 ^ 128 ≡ key * 8 ^ (DEEPEST - level)
 
 -- a position has a cell at each level
 abbrev pub PositionsHaveCells : Type 0

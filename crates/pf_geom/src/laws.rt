@@ -2,6 +2,7 @@
 // runs. A caller whose proof needs a law calls its function.
 
 ghost use Rattle.pf_geom.specs.CellLaws.{KeysInterleave, KeysAreDistinct, KeysFit, CellsHaveEqualFloors};
+ghost use Rattle.pf_geom.specs.CellLaws.{LevelsTakeThreeBits, ShiftedKeysFit};
 ghost use Rattle.pf_geom.specs.CellLaws.{PositionsHaveCells, CellsAreKeyRanges, CellsOfAPositionNest, PositionsShareLowerCells};
 ghost use Rattle.pf_geom.specs.CellLaws.{CellsNest, CornersAreFloors, CornersLieInside, ClosedBoxesHoldTheirCells};
 ghost use Rattle.pf_geom.specs.BoxLaws.{BoxesRoundAreLeast, GapsAreBounded, GapsGrowAsBoxesShrink};
@@ -27,6 +28,16 @@ pub fn keys_fit()
 /// The cell of a position at a level holds exactly the positions with the same floored coordinates.
 pub fn cells_have_equal_floors()
     ensures { CellsHaveEqualFloors }
+{}
+
+/// A level takes three bits of a key: a shift by them is a power of 8.
+pub fn levels_take_three_bits()
+    ensures { LevelsTakeThreeBits }
+{}
+
+/// A key of a level loses no bit where it is shifted to the deepest level.
+pub fn shifted_keys_fit()
+    ensures { ShiftedKeysFit }
 {}
 
 /// The cell of a position at a level is one of that level's.

@@ -21,7 +21,7 @@ pub use laws::{
     boxes_round_are_least, cells_are_key_ranges, cells_have_equal_floors, cells_nest,
     cells_of_a_position_nest, closed_boxes_hold_their_cells, corners_are_floors,
     corners_lie_inside, gaps_are_bounded, gaps_grow_as_boxes_shrink, gaps_grow_as_cells_shrink,
-    gaps_vanish_where_shared, keys_are_distinct, keys_fit, keys_interleave, positions_have_cells,
-    positions_share_lower_cells,
+    gaps_vanish_where_shared, keys_are_distinct, keys_fit, keys_interleave, levels_take_three_bits,
+    positions_have_cells, positions_share_lower_cells, shifted_keys_fit,
 };
 pub use point::{Point, point_at};

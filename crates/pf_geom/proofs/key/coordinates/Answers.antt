@@ -1,4 +1,4 @@
-use Rattle.std.proofs.Common.{◌≡◌, ◌-◌, ◌*◌, ◌/◌, ◌^◌, refl, arith}
+use Rattle.std.proofs.Common.{◌≡◌, ◌-◌, refl, arith}
 use Rattle.pf_geom.proofs.KeyLoops.{AreRead-more, AreRead-none, AreRead-fit, Fit}
 use Rattle.pf_geom.proofs.key.coordinates.Goals as goal
 use Rattle.pf_geom.proofs.key.coordinates.Goals.{In-loop-place}
