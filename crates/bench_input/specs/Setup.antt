@@ -5,7 +5,6 @@ use Rattle.pf_geom.specs.declared.edge.Edge.TheVariants.{Open}
 use Rattle.pf_model.specs.Criterion.{Criterion}
 use Rattle.pf_model.specs.Division.{Division}
 use Rattle.run_model.specs.Setup.{Setup}
-use Rattle.bench_input.specs.declared.deck.TheConstants.{GROUP, STEPS, DT, REUSE}
 use Rattle.bench_input.specs.Generator.{particles}
 
 abbrev pub bench_grid : Division
@@ -21,8 +20,8 @@ bench_setup count seed kernel = record {
   particles = particles seed count;
   grid = bench_grid;
   theta = bench_theta;
-  group = GROUP;
-  steps = STEPS;
-  dt = DT;
-  reuse = REUSE;
+  group = 64;
+  steps = 4;
+  dt = 16;
+  reuse = 4;
 }
