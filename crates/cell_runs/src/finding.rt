@@ -1,24 +1,30 @@
-ghost use Rattle.std.specs.Prelude.{◌≡◌, ℕ, ◌+◌, ◌-◌, ◌*◌, ◌/◌, ◌^◌, ◌<◌, ◌≤◌, ◌↔◌, All, List, IfSome, OnOk};
+ghost use Rattle.std.specs.Prelude.{◌≡◌, ℕ, ◌+◌, ◌-◌, ◌*◌, ◌/◌, ◌^◌, ◌<◌, ◌≤◌, ◌↔◌, true, false, All, List, IfSome, OnOk};
 ghost use Rattle.std.specs.Prelude.{length, map, slice_index_or};
 ghost use Rattle.std.specs.List.Sorted.{IsNonDecreasing};
 ghost use Rattle.pf_geom.specs.Position.{Position};
 ghost use Rattle.pf_geom.specs.Key.{morton_key};
+ghost use Rattle.pf_model.specs.Criterion.{Passes};
 ghost use Rattle.pf_model.specs.Interaction.{level_of};
+ghost use Rattle.model_laws.specs.ListLaws.{NonePasses};
 ghost use Rattle.cell_runs.specs.CellRuns.{IsCellRun, AreCellRuns};
 ghost use Rattle.cell_runs.specs.Finding.{cell_of_key, IsBetweenCells, key_before, IsShared, NoSharedPasses};
 ghost use Rattle.cell_runs.specs.Finding.{IsCellFront, IsFront, past_cell};
 
 use crate::cell_run::CellRun;
 use opening_test::LeastGaps;
-use pf_geom::{Box3, Cell, DEEPEST, positions_share_lower_cells};
-use model_laws::{levels_are_least, nothing_passes_at_zero};
+use pf_geom::{Box3, Cell, DEEPEST, positions_have_cells, positions_share_lower_cells};
+use model_laws::{cells_inside_pass, levels_are_least, nothing_passes_at_zero};
 use pf_model::{MOST_PARTICLES, Steps, Theta};
 use pf_num::OutOfMemory;
 use std::sync::ledger::Ledger;
 
+// How many levels are tested before the deepest one tells whether more need to be: most cells pass at one of them.
+const LEVELS_AT_ONCE: u32 = 3;
+
 /// The cell runs of positions in key order, from their Morton keys, into `runs`, whatever it held before. This
 /// is the walk of the octree, depth first: a cell is tested once, where its first position stands, and only where
-/// no cell above it passed. Where the opening angle is 0 nothing is tested.
+/// no cell above it passed; but a position whose cells fail from the first on has its deepest one tested early, since
+/// where that fails all do. Where the opening angle is 0 nothing is tested.
 pub fn find_runs<L: Ledger>(
     keys: &[u128],
     b: Box3,
@@ -112,12 +118,40 @@ fn first_level<L: Ledger>(
     if gaps.theta().a == 0 {
         return None;
     }
-    for level in shared_levels(before, key)..DEEPEST + 1 {
+    let first = shared_levels(before, key);
+    if first > DEEPEST {
+        return None;
+    }
+    let next = DEEPEST.min(first + LEVELS_AT_ONCE);
+    for level in first..next {
         if gaps.passes(b, cell_of_key(key, level), steps) {
             return Some(level);
         }
     }
-    None
+    if !deepest_passes(key, b, gaps, steps) {
+        return None;
+    }
+    for deep in next..DEEPEST {
+        if gaps.passes(b, cell_of_key(key, deep), steps) {
+            return Some(deep);
+        }
+    }
+    Some(DEEPEST)
+}
+
+// Whether the deepest cell of a key passes: where it doesn't, none of its cells does.
+fn deepest_passes<L: Ledger>(key: u128, b: Box3, gaps: &LeastGaps, steps: &mut Steps<L>) -> bool
+    requires { key < 2 ^ 90 }
+    ensures passes { result ≡ true → Passes b (cell_of_key key DEEPEST) gaps.now }
+    ensures none { result ≡ false → (p : Position) → morton_key p ≡ key → NonePasses gaps.now b p }
+    ensures cost { steps.new ≡ steps.old + 1 }
+{
+    cells_inside_pass();
+    positions_have_cells();
+    positions_share_lower_cells();
+    let (from, to) = (b.lo, b.hi);
+    let (_least, _greatest) = (from.x, to.x);
+    gaps.passes(b, cell_of_key(key, DEEPEST), steps)
 }
 
 // At how many levels the cell of a key is that of the key before. They are the first ones.

@@ -1,4 +1,4 @@
-use Rattle.std.proofs.Common.{◌-◌, arith}
+use Rattle.std.proofs.Common.{◌-◌}
 use Rattle.cell_runs.proofs.KeyLemmas.{past_from_bits}
 use Rattle.cell_runs.proofs.finding.key_past.Goals as goal
 
