@@ -7,19 +7,12 @@ use Rattle.std.specs.Int.Bits.{bit_xor, xor_self, xor_assoc, xor_zero_r}
 use Rattle.std.specs.Int.Count.{count_leading_zeros}
 use Rattle.std.proofs.lemmas.Bool.{cases_lt, ltb-true, ltb-false, lt-ltb}
 use Rattle.std.proofs.lemmas.List.{length-take-le, get_or-take}
+use Rattle.pf_geom.specs.CellLaws.{LevelsTakeThreeBits}
 use Rattle.pf_geom.specs.Octant.{Octant, IsCell}
 use Rattle.cell_runs.specs.Finding.{cell_of_key, IsCellFront, past_cell}
 
 abbrev octant : ℕ → ℕ → Octant
 octant level key = record { level = level; key = key }
-
--- the shift of a key to a level
-pub eight_pow : (n : ℕ) → 2 ^ (3 * n) ≡ 8 ^ n
-eight_pow zero = refl
-eight_pow (suc n) =
-    let place : 3 * suc n ≡ 3 * n + 3 = omega arith in
-    let step : 2 ^ (3 * suc n) ≡ 2 ^ (3 * n) * 8 = ap (λ e. 2 ^ e) place ∙ pow-add 2 (3 * n) 3 in
-    step ∙ ap (λ m. m * 8) (eight_pow n) ∙ sym (pow-suc 8 n)
 
 eight_pos : (n : ℕ) → 0 < 8 ^ n
 eight_pos zero = omega arith
@@ -104,12 +97,12 @@ front_from_search keys level past reach len ascending past_is some within ends b
     }
 
 -- the first key past a cell, from the last bits of a key in it
-pub past_from_bits : (key n : ℕ) → key - bit_and key (2 ^ (3 * n) - 1) + 2 ^ (3 * n) ≡ (key / 8 ^ n + 1) * 8 ^ n
-past_from_bits key n =
+pub past_from_bits : LevelsTakeThreeBits → (key n : ℕ) → key - bit_and key (2 ^ (3 * n) - 1) + 2 ^ (3 * n) ≡ (key / 8 ^ n + 1) * 8 ^ n
+past_from_bits bits key n =
     let width = 2 ^ (3 * n) in
     let rest : bit_and key (width - 1) ≡ key % width = and_mask key (3 * n) in
     let whole : key - bit_and key (width - 1) + width ≡ (key / width + 1) * width = omega (arith, rest, div-add-mod' key width, add-mul (key / width) 1 width, one-mul width) in
-    whole ∙ ap (λ w. (key / w + 1) * w) (eight_pow n)
+    whole ∙ ap (λ w. (key / w + 1) * w) (bits n)
 
 pub width_fits : (n : ℕ) → n ≤ 30 → 2 ^ (3 * n) ≤ 2 ^ 90
 width_fits n within =
@@ -156,8 +149,8 @@ leading_bits one other one_fits other_fits =
     omega (arith, top.1)
 
 -- how many levels two keys have in common, from how many of their leading bits are equal
-pub levels_in_common : (one other level : ℕ) → one < 2 ^ 90 → other < 2 ^ 90 → level ≤ 30 → (level < (count_leading_zeros 128 (bit_xor one other) - 38) / 3 + 1) ↔ (cell_of_key one level ≡ cell_of_key other level)
-levels_in_common one other level one_fits other_fits within =
+pub levels_in_common : LevelsTakeThreeBits → (one other level : ℕ) → one < 2 ^ 90 → other < 2 ^ 90 → level ≤ 30 → (level < (count_leading_zeros 128 (bit_xor one other) - 38) / 3 + 1) ↔ (cell_of_key one level ≡ cell_of_key other level)
+levels_in_common bits one other level one_fits other_fits within =
     let apart = bit_xor one other in
     let top = differing_bits one other one_fits other_fits in
     let m = top.0 in
@@ -165,7 +158,7 @@ levels_in_common one other level one_fits other_fits within =
     let short = leading_bits one other one_fits other_fits in
     let narrow = fits_by_length apart m places top.2 top.3 in
     let equal = equal_past one other places in
-    let width = eight_pow (30 - level) in (
+    let width = bits (30 - level) in (
       λ less. same_cell one other level (ap (λ w. one / w) (sym width) ∙ equal.0 (narrow.1 (omega (arith, top.1, less))) ∙ ap (λ w. other / w) width),
       λ same.
           let keys = ap (λ w. one / w) width ∙ ap (λ (c : Octant). c.key) same ∙ ap (λ w. other / w) (sym width) in

@@ -11,9 +11,12 @@ ghost use Rattle.cell_runs.specs.Finding.{cell_of_key, IsBetweenCells, key_befor
 ghost use Rattle.cell_runs.specs.Finding.{IsCellFront, IsFront, past_cell};
 
 use crate::cell_run::CellRun;
-use opening_test::LeastGaps;
-use pf_geom::{Box3, Cell, DEEPEST, positions_have_cells, positions_share_lower_cells};
 use model_laws::{cells_inside_pass, levels_are_least, nothing_passes_at_zero};
+use opening_test::LeastGaps;
+use pf_geom::{
+    Box3, Cell, DEEPEST, levels_take_three_bits, positions_have_cells,
+    positions_share_lower_cells,
+};
 use pf_model::{MOST_PARTICLES, Steps, Theta};
 use pf_num::OutOfMemory;
 use std::sync::ledger::Ledger;
@@ -175,6 +178,7 @@ fn common_levels(one: u128, other: u128) -> u32
     ensures common { (level : ℕ) → level ≤ DEEPEST
         → (level < result) ↔ (cell_of_key one level ≡ cell_of_key other level) }
 {
+    levels_take_three_bits();
     let beyond = u128::BITS - 3 * DEEPEST;
     ((one ^ other).leading_zeros() - beyond) / 3 + 1
 }
@@ -195,6 +199,7 @@ pub fn cell_key(key: u128, level: u32) -> u128
     requires { level ≤ DEEPEST }
     ensures { result ≡ key / 8 ^ (DEEPEST - level) }
 {
+    levels_take_three_bits();
     key >> (3 * (DEEPEST - level))
 }
 
@@ -231,6 +236,7 @@ fn key_past(key: u128, level: u32) -> u128
     requires level { level ≤ DEEPEST }
     ensures { result ≡ past_cell key level }
 {
+    levels_take_three_bits();
     let width = width_at(level);
     key - (key & (width - 1)) + width
 }

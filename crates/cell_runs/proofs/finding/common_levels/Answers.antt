@@ -5,4 +5,4 @@ pub overflow_sub-result : goal.overflow_sub-result
 overflow_sub-result c = leading_bits c.args.one c.args.other c.requires.one c.requires.other
 
 pub returns-clause-common : goal.returns-clause-common
-returns-clause-common c = λ level within. levels_in_common c.args.one c.args.other level c.requires.one c.requires.other within
+returns-clause-common c = λ level within. levels_in_common c.levels_take_three_bits.ensures c.args.one c.args.other level c.requires.one c.requires.other within
