@@ -2,17 +2,15 @@
 use Rattle.std.proofs.Common.{◌≡◌, ℕ, zero, suc, ◌+◌, ◌<◌, List, [], ◌∷◌, ◌++◌, Vec, Global, length, get_or, map, take, nat_eq, refl, sym, ◌∙◌, ap, subst, arith}
 use Rattle.std.specs.List.{All, filter, flat_map, range_with_len, zip}
 use Rattle.std.specs.List.Sorted.{IsPermutation}
-use Rattle.std.proofs.lemmas.List.{get_or-map, length-map}
+use Rattle.std.proofs.lemmas.List.{get_or-map, length-map, map-id}
 use Rattle.std.proofs.lemmas.List.Elements.{Contains-get_or}
+use Rattle.std.proofs.lemmas.List.Folds.{flat_map-map}
 use Rattle.std.proofs.lemmas.List.FromFn.{length-range_with_len, get_or-range_with_len}
 use Rattle.std.proofs.lemmas.List.Sorted.{length_permutation}
 use Rattle.std.proofs.lemmas.Slice.Zip.{get_or-zip, length-zip}
 use Rattle.pf_model.specs.Division.{Division, rank_count}
-use Rattle.model_laws.specs.DomainLaws.{CutsIgnoreOrder, DomainsIgnoreOrder}
 use Rattle.pf_model.specs.Domains.{Multisection, owner, particles_of, cuts_for}
-use Rattle.model_laws.specs.IdLaws.{OrdersByIdAreOne}
 use Rattle.pf_model.specs.Particle.{Particle}
-use Rattle.model_laws.specs.ParticleLaws.{DistinctIdsIgnoreOrder, SomeHaveDistinctIds}
 use Rattle.pf_model.specs.Particles.{AreBodies, by_id}
 use Rattle.let_inbox.specs.declared.inbox.Inbox.{Inbox}
 use Rattle.let_inbox.specs.declared.tokens.Spent.{Spent}
@@ -21,20 +19,22 @@ use Rattle.exchange.specs.States.{Holding, Package, left_with, owned_by, parcels
 use Rattle.exchange.specs.ExchangeLaws.{AreOfAllRanks, particles_held, parcels_to, HasItsOwn, EachRankHasItsOwn}
 use Rattle.all_to_all.specs.declared.post.Post.{Post}
 use Rattle.all_to_all.specs.Handed.{EachHasTokens, HasSentToAll, all_carried, sent_for}
+use Rattle.all_to_all.specs.Laws.{EachOtherSentOne}
 use Rattle.all_to_all.specs.Posts.{state_of, PostState}
 use Rattle.exchange_phase.specs.declared.arriving.Due.{Due}
 use Rattle.exchange_phase.specs.Packages.{src_of, dst_of, ArePosts, AreTokens}
 use Rattle.exchange_phase.specs.Leaving.{HaveSent}
 use Rattle.exchange_phase.specs.Arriving.{due_of, CanSettle, IsSettledFrom, AreSettledFrom}
+use Rattle.exchange_phase.specs.Laws.{PhaseLaws}
 use Rattle.exchange_phase.specs.Ranks.{HaveTogether, with_owners}
 use Rattle.exchange_phase.proofs.Leave.{targets_by}
-use Rattle.exchange_phase.proofs.Maps.{maps_agree, maps_long, at_maps, at_number, as_many, each_of_map, filter_of_each, map_same, first_of, written}
+use Rattle.exchange_phase.proofs.Maps.{maps_agree, maps_long, at_maps, at_number, as_many, first_of, written}
 use Rattle.exchange_phase.proofs.Sent.{came_for}
 
 -- ---- what was sent
 
 module _ (s : Multisection) (inboxes : List (Inbox Package)) (hs : List Holding) (posts : List (Post Package))
-    (count : length inboxes ≡ rank_count s.grid) (ranks : AreOfAllRanks s hs) (sent : HaveSent s inboxes hs posts) where
+    (count : length inboxes ≡ rank_count s.grid) (ranks : AreOfAllRanks s hs) (sent : HaveSent s inboxes hs posts) (one : EachOtherSentOne dst_of) where
   posts_long : length posts ≡ length hs
   posts_long = maps_long (λ (p : Post Package). (state_of p).sent) (parcels_from s) posts hs sent.sent
 
@@ -54,11 +54,10 @@ module _ (s : Multisection) (inboxes : List (Inbox Package)) (hs : List Holding)
   sent_for_rank : (rank : ℕ) → rank < rank_count s.grid → flat_map (sent_for dst_of rank) posts ≡ parcels_to s hs rank
   sent_for_rank rank below =
       let for_rank = λ (m : Package). nat_eq m.dst rank in
-      sym (each_of_map (filter for_rank) (λ (p : Post Package). (state_of p).sent) posts)
+      sym (flat_map-map (filter for_rank) (λ (p : Post Package). (state_of p).sent) posts)
       ∙ ap (flat_map (filter for_rank)) sent.sent
-      ∙ each_of_map (filter for_rank) (parcels_from s) hs
-      ∙ sym (filter_of_each for_rank (parcels_from s) hs)
-      ∙ came_for s rank below hs
+      ∙ flat_map-map (filter for_rank) (parcels_from s) hs
+      ∙ came_for one s hs ranks rank below
 
   module _ (lists : List (Vec (Spent Package) Global))
       (carried : map (λ l. all_carried l.items) lists ≡ map (λ rank. flat_map (sent_for dst_of rank) posts) (range_with_len 0 (length inboxes))) where
@@ -135,7 +134,7 @@ module _ (s : Multisection) (inboxes : List (Inbox Package)) (hs : List Holding)
       all_own settled_ranks are =
           let long = ts_long in let many = length-map ts due_of in let total = are.all in let hl = hs_long in
           let numbers = length-range_with_len 0 (rank_count s.grid) in
-          sym (map_same settled_ranks)
+          sym (map-id settled_ranks)
           ∙ maps_agree (λ (h : Holding). h) owned_rank settled_ranks (range_with_len 0 (rank_count s.grid)) (omega arith)
           (λ k h n within.
           let below : k < length inboxes = omega arith in
@@ -151,19 +150,11 @@ module _ (s : Multisection) (inboxes : List (Inbox Package)) (hs : List Holding)
 
 -- ---- the definition of the build
 
-pub record Laws : Type 0 where
-  pub own : EachRankHasItsOwn
-  pub cuts : CutsIgnoreOrder
-  pub domains : DomainsIgnoreOrder
-  pub by_ids : OrdersByIdAreOne
-  pub kept : DistinctIdsIgnoreOrder
-  pub some : SomeHaveDistinctIds
-
 agree_on_ranks : {Y : Type 0} (f g : ℕ → Y) (start len : ℕ) → ((n : ℕ) → f n ≡ g n) → map f (range_with_len start len) ≡ map g (range_with_len start len)
 agree_on_ranks f g start zero each = refl
 agree_on_ranks f g start (suc len) each = (λ i. each start i ∷ agree_on_ranks f g (start + 1) len each i)
 
-module _ (laws : Laws) (g : Division) (js : List Particle) (hs : List Holding) (bodies : AreBodies js) (have : HaveTogether g js hs) where
+module _ (laws : PhaseLaws) (g : Division) (js : List Particle) (hs : List Holding) (bodies : AreBodies js) (have : HaveTogether g js hs) where
   pub held_bodies : AreBodies (particles_held hs)
   held_bodies = record {
     few = (let same = length_permutation js (particles_held hs) have.all in let few = bodies.few in omega arith);
@@ -208,12 +199,12 @@ pub record Arrives (g : Division) (js : List Particle) (inboxes : List (Inbox Pa
   pub can : All (λ t. CanSettle inboxes (due_of t)) ts
   pub owners : (ranks : List Holding) → AreSettledFrom (map due_of ts) ranks → ranks ≡ with_owners g js
 
-module _ (laws : Laws) (g : Division) (js : List Particle) (hs : List Holding) (bodies : AreBodies js) (have : HaveTogether g js hs) (s : Multisection) (by : s ≡ cuts_for g js)
+module _ (laws : PhaseLaws) (g : Division) (js : List Particle) (hs : List Holding) (bodies : AreBodies js) (have : HaveTogether g js hs) (s : Multisection) (by : s ≡ cuts_for g js)
     (inboxes : List (Inbox Package)) (count : length inboxes ≡ rank_count s.grid) (posts : List (Post Package)) (sent : HaveSent s inboxes hs posts) where
   pub each_sent_to_all : (lent_inboxes : List (Inbox Package)) (lent : List (Post Package)) → inboxes ≡ lent_inboxes → lent ≡ posts → All (HasSentToAll dst_of (length lent_inboxes)) lent
   each_sent_to_all lent_inboxes lent same of =
       subst (All (HasSentToAll dst_of (length lent_inboxes))) (sym of)
-      (subst (λ (is : List (Inbox Package)). All (HasSentToAll dst_of (length is)) posts) same (sent_to_all s inboxes hs posts count (own_by laws g js hs bodies have s by).ranks sent))
+      (subst (λ (is : List (Inbox Package)). All (HasSentToAll dst_of (length is)) posts) same (sent_to_all s inboxes hs posts count (own_by laws g js hs bodies have s by).ranks sent laws.sent))
 
   pub arrives : (left : List Holding) → left ≡ map (left_with s) hs → (after : List (Post Package)) → ArePosts inboxes after → map state_of after ≡ map (λ p. record (state_of p) { sent = [] }) posts →
       (lists : List (Vec (Spent Package) Global)) → EachHasTokens src_of inboxes (length inboxes) (map (λ l. l.items) lists) →
@@ -223,6 +214,6 @@ module _ (laws : Laws) (g : Division) (js : List Particle) (hs : List Holding) (
       let home = own_by laws g js hs bodies have s by in
       let held = held_bodies laws g js hs bodies have in
       subst (λ (ps : List (Post Package)). Arrives g js inboxes (zip (zip left ps) lists)) (sym (written n after rest long)) (record {
-        can = can_settle s inboxes hs posts count home.ranks sent lists carried left left_is after after_are emptied tokens laws.own held;
-        owners = λ ranks are. all_own s inboxes hs posts count home.ranks sent lists carried left left_is after after_are emptied tokens laws.own held ranks are ∙ home.owners;
+        can = can_settle s inboxes hs posts count home.ranks sent laws.sent lists carried left left_is after after_are emptied tokens laws.own held;
+        owners = λ ranks are. all_own s inboxes hs posts count home.ranks sent laws.sent lists carried left left_is after after_are emptied tokens laws.own held ranks are ∙ home.owners;
       })

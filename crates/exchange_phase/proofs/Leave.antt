@@ -3,6 +3,7 @@ use Rattle.std.proofs.Common.{◌≡◌, ℕ, zero, suc, ◌<◌, false, List, [
 use Rattle.std.specs.List.{All, range_with_len, zip}
 use Rattle.std.proofs.lemmas.List.{get_or-map, length-map, map-append}
 use Rattle.std.proofs.lemmas.List.Elements.{All-map, All-append}
+use Rattle.std.proofs.lemmas.Simd.{map-map}
 use Rattle.std.proofs.lemmas.Slice.Zip.{get_or-zip, length-zip}
 use Rattle.pf_model.specs.Division.{rank_count}
 use Rattle.pf_model.specs.Domains.{Multisection}
@@ -14,7 +15,7 @@ use Rattle.all_to_all.specs.Posts.{state_of, fresh_state, PostState}
 use Rattle.exchange_phase.specs.declared.leaving.Leaver.{Leaver}
 use Rattle.exchange_phase.specs.Packages.{ArePosts, IsPost}
 use Rattle.exchange_phase.specs.Leaving.{leaver_of, CanLeave, IsGone, HaveLeft, HaveSent, ArePartsOf}
-use Rattle.exchange_phase.proofs.Maps.{maps_agree, at_maps, at_number, as_many, map_of_map}
+use Rattle.exchange_phase.proofs.Maps.{maps_agree, at_maps, at_number, as_many}
 
 module _ (s : Multisection) (inboxes : List (Inbox Package)) (hs : List Holding) (posts : List (Post Package))
     (numbers : map (λ h. h.rank) hs ≡ range_with_len 0 (length inboxes)) (are : ArePosts inboxes posts)
@@ -71,10 +72,10 @@ module _ (s : Multisection) (inboxes : List (Inbox Package)) (hs : List Holding)
     all_sent = record {
       posts_are = record {
         each = All-map (IsPost inboxes) (λ (l : Leaver). l.post) after (λ k l within. (gone k l l.state within).post_is);
-        ranks = map_of_map (λ (p : Post Package). (state_of p).rank) (λ (l : Leaver). l.post) after
+        ranks = map-map (λ (p : Post Package). (state_of p).rank) (λ (l : Leaver). l.post) after
             ∙ maps_agree (λ (l : Leaver). (state_of l.post).rank) (λ (h : Holding). h.rank) after hs after_long (λ k l h within. (gone k l h within).rank) ∙ numbers;
       };
-      sent = map_of_map (λ (p : Post Package). (state_of p).sent) (λ (l : Leaver). l.post) after
+      sent = map-map (λ (p : Post Package). (state_of p).sent) (λ (l : Leaver). l.post) after
           ∙ maps_agree (λ (l : Leaver). (state_of l.post).sent) (parcels_from s) after hs after_long (λ k l h within. (gone k l h within).sent);
       none_left = All-map (λ (p : Post Package). (state_of p).unsent ≡ []) (λ (l : Leaver). l.post) after (λ k l within. (gone k l l.state within).none_left);
       unsettled = All-map (λ (p : Post Package). (state_of p).settled ≡ []) (λ (l : Leaver). l.post) after (λ k l within. (gone k l l.state within).unsettled);

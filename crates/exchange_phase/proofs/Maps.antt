@@ -1,9 +1,8 @@
 -- Lists that are maps of one another, element by element.
-use Rattle.std.proofs.Common.{◌≡◌, ℕ, suc, ◌<◌, Bool, List, [], ◌∷◌, ◌++◌, length, get_or, take, map, refl, sym, ◌∙◌, ap, arith}
-use Rattle.std.specs.List.{filter, flat_map, range_with_len}
+use Rattle.std.proofs.Common.{◌≡◌, ℕ, suc, ◌<◌, List, [], ◌∷◌, ◌++◌, length, get_or, take, map, refl, sym, ◌∙◌, ap, arith}
+use Rattle.std.specs.List.{range_with_len}
 use Rattle.std.proofs.Math.Seq.{take-append_seam}
 use Rattle.std.proofs.lemmas.List.{get_or-map, length-map}
-use Rattle.std.proofs.lemmas.List.Elements.{filter-append}
 use Rattle.std.proofs.lemmas.List.FromFn.{get_or-range_with_len, length-range_with_len}
 
 module _ {X Y Z : Type 0} (f : X → Z) (g : Y → Z) where
@@ -31,22 +30,6 @@ module _ {X : Type 0} (f : X → ℕ) (xs : List X) (n : ℕ) (same : map f xs �
   at_number k x within =
       let long = as_many in
       sym (get_or-map f xs k x 0 within) ∙ ap (λ (zs : List ℕ). get_or zs k 0) same ∙ get_or-range_with_len 0 n k 0 (omega arith) ∙ omega arith
-
-pub map_of_map : {X Y Z : Type 0} (f : Y → Z) (g : X → Y) (xs : List X) → map f (map g xs) ≡ map (λ x. f (g x)) xs
-map_of_map f g [] = refl
-map_of_map f g (x ∷ xs) = ap (λ rest. f (g x) ∷ rest) (map_of_map f g xs)
-
-pub each_of_map : {X Y Z : Type 0} (f : Y → List Z) (g : X → Y) (xs : List X) → flat_map f (map g xs) ≡ flat_map (λ x. f (g x)) xs
-each_of_map f g [] = refl
-each_of_map f g (x ∷ xs) = ap (λ rest. f (g x) ++ rest) (each_of_map f g xs)
-
-pub filter_of_each : {X Z : Type 0} (test : Z → Bool) (f : X → List Z) (xs : List X) → filter test (flat_map f xs) ≡ flat_map (λ x. filter test (f x)) xs
-filter_of_each test f [] = refl
-filter_of_each test f (x ∷ xs) = filter-append test (f x) (flat_map f xs) ∙ ap (λ rest. filter test (f x) ++ rest) (filter_of_each test f xs)
-
-pub map_same : {X : Type 0} (xs : List X) → map (λ x. x) xs ≡ xs
-map_same [] = refl
-map_same (x ∷ xs) = ap (λ rest. x ∷ rest) (map_same xs)
 
 pub first_of : {X : Type 0} (xs : List X) → 0 < length xs → X
 first_of [] some = absurd (omega arith)

@@ -5,14 +5,11 @@ ghost use Rattle.multisection.specs.Regions.{regions_of};
 ghost use Rattle.exchange_phase.specs.Ranks.{HaveTogether, with_owners};
 
 use crate::arriving::settle_all;
-use crate::laws::ranks_by_number_have_together;
+use crate::laws::{phase_laws, ranks_by_number_have_together};
 use crate::leaving::leave_all;
 use all_to_all::{open, tokens_for};
-use exchange::{Parcel, RankState, each_rank_has_its_own};
-use model_laws::{
-    cuts_ignore_order, distinct_ids_ignore_order, domains_ignore_order, orders_by_id_are_one,
-    ranks_by_id_have_all, some_have_distinct_ids,
-};
+use exchange::{Parcel, RankState};
+use model_laws::ranks_by_id_have_all;
 use multisection::{Domains, ranks};
 use pf_io::Gate;
 use pf_model::{Body, Grid};
@@ -42,14 +39,9 @@ pub fn exchanged<R: Threads + Wait + Sync, G: Gate>(
     ensures owners { IfOk result (λ after. after.items ≡ with_owners grid now.now) }
     ensures together { IfOk result (λ after. HaveTogether grid now.now after.items) }
 {
-    each_rank_has_its_own();
-    cuts_ignore_order();
-    distinct_ids_ignore_order();
-    domains_ignore_order();
-    orders_by_id_are_one();
+    phase_laws();
     ranks_by_id_have_all();
     ranks_by_number_have_together();
-    some_have_distinct_ids();
     let _nx = grid.nx;
     let (inboxes, posts) = open::<Parcel>(alloc, ranks(domains))?;
     let (left, mut posts) = leave_all(rt, alloc, workers, gate, domains, &inboxes, states, posts)?;

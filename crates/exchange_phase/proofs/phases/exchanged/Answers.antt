@@ -13,51 +13,27 @@ use Rattle.all_to_all.specs.Posts.{state_of}
 use Rattle.exchange_phase.specs.Packages.{src_of, dst_of, ArePosts}
 use Rattle.exchange_phase.specs.Arriving.{due_of, CanSettle, AreSettledFrom}
 use Rattle.exchange_phase.specs.Ranks.{HaveTogether, with_owners}
-use Rattle.exchange_phase.proofs.Home.{Laws, own_by, each_sent_to_all, arrives}
+use Rattle.exchange_phase.proofs.Home.{own_by, each_sent_to_all, arrives}
 use Rattle.exchange_phase.proofs.phases.exchanged.Goals as goal
 
 pub leave_all-requires-clause-ranks : goal.leave_all-requires-clause-ranks
 leave_all-requires-clause-ranks g c κs within =
-    let laws : Laws = record {
-      own = c.each_rank_has_its_own.ensures;
-      cuts = c.cuts_ignore_order.ensures;
-      domains = c.domains_ignore_order.ensures;
-      by_ids = c.orders_by_id_are_one.ensures;
-      kept = c.distinct_ids_ignore_order.ensures;
-      some = c.some_have_distinct_ids.ensures;
-    } in
-    let home = own_by laws c.args.grid c.args.now.now c.args.states.items c.requires.bodies c.requires.together c.args.domains.now.cuts (ap (λ (d : Regions). d.cuts) c.requires.domains) in
+    let home = own_by c.phase_laws.ensures c.args.grid c.args.now.now c.args.states.items c.requires.bodies c.requires.together c.args.domains.now.cuts (ap (λ (d : Regions). d.cuts) c.requires.domains) in
     home.ranks ∙ ap (range_with_len 0) (sym (c.deref.ensures.len ∙ c.in_ok-inboxes.ensures.inboxes ∙ c.ranks.ensures))
 
 pub tokens_for-requires-clause-sent : goal.tokens_for-requires-clause-sent
 tokens_for-requires-clause-sent g c =
-    let laws : Laws = record {
-      own = c.each_rank_has_its_own.ensures;
-      cuts = c.cuts_ignore_order.ensures;
-      domains = c.domains_ignore_order.ensures;
-      by_ids = c.orders_by_id_are_one.ensures;
-      kept = c.distinct_ids_ignore_order.ensures;
-      some = c.some_have_distinct_ids.ensures;
-    } in
     let s = c.args.domains.now.cuts in
-    each_sent_to_all laws c.args.grid c.args.now.now c.args.states.items c.requires.bodies c.requires.together s (ap (λ (d : Regions). d.cuts) c.requires.domains)
+    each_sent_to_all c.phase_laws.ensures c.args.grid c.args.now.now c.args.states.items c.requires.bodies c.requires.together s (ap (λ (d : Regions). d.cuts) c.requires.domains)
     c.deref.result.now (c.deref.ensures.len ∙ c.in_ok-inboxes.ensures.inboxes ∙ c.ranks.ensures) c.in_ok-left.posts.items c.in_ok-left.ensures.sent
     c.deref-2.result.now c.deref_mut.result.now (c.deref.ensures.value ∙ sym c.deref-2.ensures.value) c.deref_mut.ensures.value
 
 pub settle_all-requires-clause-each : goal.settle_all-requires-clause-each
 settle_all-requires-clause-each g c κs within =
-    let laws : Laws = record {
-      own = c.each_rank_has_its_own.ensures;
-      cuts = c.cuts_ignore_order.ensures;
-      domains = c.domains_ignore_order.ensures;
-      by_ids = c.orders_by_id_are_one.ensures;
-      kept = c.distinct_ids_ignore_order.ensures;
-      some = c.some_have_distinct_ids.ensures;
-    } in
     let s = c.args.domains.now.cuts in
     let posts = c.in_ok-left.posts.items in
     let back : c.deref-2.result.now ≡ c.deref.result.now = c.deref-2.ensures.value ∙ sym c.deref.ensures.value in
-    let home = arrives laws c.args.grid c.args.now.now c.args.states.items c.requires.bodies c.requires.together s (ap (λ (d : Regions). d.cuts) c.requires.domains)
+    let home = arrives c.phase_laws.ensures c.args.grid c.args.now.now c.args.states.items c.requires.bodies c.requires.together s (ap (λ (d : Regions). d.cuts) c.requires.domains)
     c.deref.result.now (c.deref.ensures.len ∙ c.in_ok-inboxes.ensures.inboxes ∙ c.ranks.ensures) posts c.in_ok-left.ensures.sent
     c.in_ok-left.left.items c.in_ok-left.ensures.left c.tokens_for.new.posts
     (subst (λ (is : List (Inbox Package)). ArePosts is c.tokens_for.new.posts) back c.in_ok-tokens.ensures.of_inboxes)
@@ -71,18 +47,10 @@ settle_all-requires-clause-each g c κs within =
 
 pub returns-clause-owners : goal.returns-clause-owners
 returns-clause-owners g c =
-    let laws : Laws = record {
-      own = c.each_rank_has_its_own.ensures;
-      cuts = c.cuts_ignore_order.ensures;
-      domains = c.domains_ignore_order.ensures;
-      by_ids = c.orders_by_id_are_one.ensures;
-      kept = c.distinct_ids_ignore_order.ensures;
-      some = c.some_have_distinct_ids.ensures;
-    } in
     let s = c.args.domains.now.cuts in
     let posts = c.in_ok-left.posts.items in
     let back : c.deref-2.result.now ≡ c.deref.result.now = c.deref-2.ensures.value ∙ sym c.deref.ensures.value in
-    let home = arrives laws c.args.grid c.args.now.now c.args.states.items c.requires.bodies c.requires.together s (ap (λ (d : Regions). d.cuts) c.requires.domains)
+    let home = arrives c.phase_laws.ensures c.args.grid c.args.now.now c.args.states.items c.requires.bodies c.requires.together s (ap (λ (d : Regions). d.cuts) c.requires.domains)
     c.deref.result.now (c.deref.ensures.len ∙ c.in_ok-inboxes.ensures.inboxes ∙ c.ranks.ensures) posts c.in_ok-left.ensures.sent
     c.in_ok-left.left.items c.in_ok-left.ensures.left c.tokens_for.new.posts
     (subst (λ (is : List (Inbox Package)). ArePosts is c.tokens_for.new.posts) back c.in_ok-tokens.ensures.of_inboxes)
