@@ -234,30 +234,6 @@ module _ (edge : Edge) (kernel : Kernel) where
     stop_found (Numeric fault) e = let least = fault_found found.least fault is.least e in (least.among, least.below)
     stop_found Memory e = tt
 
-    pub rows_answer : {V : Type 0} (items : V → List IdRow) (r : Result V PhaseFault) → IfOk r (λ v. items v ≡ in_order_of_id found.rows) → OnOk r (found.least ≡ None) → IfOk r (λ v. items v ≡ rows_by_id edge kernel groups)
-    rows_answer items (Ok v) e none = e ∙ ap in_order_of_id (is.rows none)
-    rows_answer items (Err stop) e none = tt
-
-    pub none_answer : {V : Type 0} (r : Result V PhaseFault) → OnOk r (found.least ≡ None) → OnOk r (faults_in edge kernel groups ≡ [])
-    none_answer (Ok v) none = no_fault_found found.least is.least none
-    none_answer (Err stop) none = tt
-
-    pub stop_answer : {V : Type 0} (r : Result V PhaseFault) → IfErr r (λ stop. IsLeastOf found.least stop) → IfErr r (StopsPhase edge kernel groups)
-    stop_answer (Ok v) e = tt
-    stop_answer (Err stop) e = stop_found stop e
-
--- the lists of all ranks, at the end of a loop over them
-pub all_lists : {H : Type 0} (edge : Edge) (kernel : Kernel) (has : H → List GroupList) (lists : List H) (k : ℕ) (found : FoundSoFar) → length lists ≤ k
-    → IsFoundIn edge kernel (flat_map has (take k lists)) found → IsFoundIn edge kernel (flat_map has lists) found
-all_lists edge kernel has lists k found h is = subst (λ l. IsFoundIn edge kernel (flat_map has l) found) (take_all k lists h) is
-
-pub lists_more : {H : Type 0} (has : H → List GroupList) (lists : List H) (k : ℕ) (h : H) (own : List GroupList) → k < length lists → h ≡ get_or lists k h → own ≡ has h
-    → flat_map has (take k lists) ++ own ≡ flat_map has (take (k + 1) lists)
-lists_more has lists k h own inside is e =
-    ap (λ l. flat_map has (take k lists) ++ l) (e ∙ sym (append-nil (has h)))
-    ∙ sym (flat_map-append has (take k lists) (h ∷ []))
-    ∙ ap (flat_map has) (ap (λ x. take k lists ++ x ∷ []) is ∙ sym (take_more lists k h inside))
-
 -- ---- a group among the lists of a rank
 
 -- the groups before the next one

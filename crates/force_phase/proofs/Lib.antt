@@ -4,7 +4,6 @@ pub mod PairLemmas
 pub mod RowLemmas
 pub mod UnderWay
 pub mod RowSteps
-pub mod IdOrder
 pub mod FoundLemmas
 pub mod GroupNumbers
 pub mod TogetherLemmas

@@ -1,5 +1,5 @@
 -- What the groups finished so far gave: forces, or faults of which the least is kept.
-use Rattle.std.specs.Prelude.{◌≡◌, ℤ, List, [], ◌++◌, Option, Some, None, map, nat_lt, nat_le, if◌then◌else◌}
+use Rattle.std.specs.Prelude.{◌≡◌, ◌<◌, ℤ, List, [], ◌++◌, Option, Some, None, map, nat_lt, nat_le, if◌then◌else◌, AllPairs, IsPermutation}
 use Rattle.std.specs.List.{zip}
 use Rattle.order_laws.specs.Order.{in_order_once}
 use Rattle.pf_model.specs.Particle.{Particle}
@@ -42,6 +42,11 @@ least_of_two least (Some fault) = Some (lesser least fault)
 -- what some groups gave, and what others did after them
 abbrev pub of_both : FoundSoFar → FoundSoFar → FoundSoFar
 of_both found other = record { rows = found.rows ++ other.rows; least = least_of_two found.least other.least }
+
+-- the rows, in an order in which ids ascend
+pub record AreInOrderOfId (rows sorted : List IdRow) : Type 0 where
+  pub same : IsPermutation rows sorted
+  pub in_order : AllPairs (λ r s. r.id < s.id) sorted
 
 -- rows by ascending id
 abbrev pub in_order_of_id : List IdRow → List IdRow

@@ -3,6 +3,7 @@ ghost use Rattle.std.specs.List.{IsDistinct};
 ghost use Rattle.force_phase.specs.Found as rules;
 
 use crate::phase::{IdRow, PhaseFault};
+use order_laws::distinct_keys_rise;
 use pf_model::Body;
 use run_model::{Fault, Row};
 use std::alloc::{AllocError, Global};
@@ -67,7 +68,7 @@ impl Found {
     pub(crate) fn answer(self) -> Result<Vec<IdRow>, PhaseFault>
         requires { self.least ≡ None → IsDistinct nat_eq (map (λ r. r.id) self.rows) }
         ensures none { OnOk result (self.least ≡ None) }
-        ensures rows { IfOk result (λ rows. rows.items ≡ rules.in_order_of_id self.rows) }
+        ensures rows { IfOk result (λ rows. rules.AreInOrderOfId self.rows rows.items) }
         ensures fault { IfErr result (λ stop. rules.IsLeastOf self.least stop) }
     {
         match self.least {
@@ -114,7 +115,8 @@ pub(crate) fn lesser(least: Option<Fault>, fault: Fault) -> Fault
 
 fn sort_by_id(rows: &mut [IdRow])
     requires { IsDistinct nat_eq (map (λ r. r.id) rows.old) }
-    ensures { rows.new ≡ rules.in_order_of_id rows.old }
+    ensures { rules.AreInOrderOfId rows.old rows.new }
 {
+    distinct_keys_rise::<IdRow>();
     rows.sort_unstable_by_key(|row| row.id);
 }

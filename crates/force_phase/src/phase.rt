@@ -14,6 +14,9 @@ use group_lists::HasLists;
 use kern_types::Typed;
 use pf_geom::Edge;
 use pf_io::Gate;
+use model_laws::distinct_ids_ignore_order;
+use order_laws::{lists_in_order_are_one, parts_keep_permutations};
+use pf_model::Body;
 use pf_num::OutOfMemory;
 use run_model::{Fault, Row};
 use std::alloc::{AllocError, Global};
@@ -93,6 +96,11 @@ pub fn forces<R: Threads + Sync, H: HasLists + Sync, G: Gate>(
         HaveAllGroups workers (length (flat_map H.has lists.now)) out.claims.items) }
 {
     numbers_once_stand_in_some_order();
+    distinct_ids_ignore_order();
+    lists_in_order_are_one::<IdRow>();
+    parts_keep_permutations::<u32, Body>();
+    parts_keep_permutations::<u32, IdRow>();
+    parts_keep_permutations::<u32, Fault>();
     let (found, claims) = found_by_workers(rt, alloc, workers, t, lists, edge, gate)?;
     Ok(PhaseOut {
         rows: found.answer()?,
