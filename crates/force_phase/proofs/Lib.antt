@@ -1,4 +1,3 @@
-pub mod TargetLemmas
 pub mod TallyLemmas
 pub mod PairLemmas
 pub mod RowLemmas

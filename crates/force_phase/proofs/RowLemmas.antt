@@ -15,12 +15,7 @@ use Rattle.kern_tree.specs.declared.kernel.Kernel.{Kernel}
 use Rattle.kern_tree.specs.declared.kernel.Kind.{Kind}
 use Rattle.kern_tree.specs.declared.kernel.Kind.TheVariants.{Num, Vec3}
 use Rattle.kern_types.specs.declared.force_var.ForceVar.{ForceVar}
-use Rattle.kern_tree.specs.declared.kernel.Decl.{Decl}
-use Rattle.kern_tree.specs.declared.kernel.DeclKind.{DeclKind}
-use Rattle.kern_tree.specs.declared.kernel.DeclKind.TheVariants as declared_as
-use Rattle.kern_tree.specs.Limits.{KeepsLimits}
-use Rattle.kern_tree.specs.Nodes.{stmt_nodes}
-use Rattle.kern_types.specs.Declarations.{forces_of, force_as}
+use Rattle.kern_types.specs.Declarations.{forces_of}
 use Rattle.kern_meaning.specs.declared.value.Value.{Value}
 use Rattle.kern_meaning.specs.Pair.{OrPairStop}
 use Rattle.kern_meaning.specs.Values.{components}
@@ -138,29 +133,6 @@ module _ (edge : Edge) (kernel : Kernel) (i : Particle) (entries : List Entry) (
 
     pub forces_found : (row : List ℤ) → row ≡ row_of (forces_of kernel.decls) tallies → row_fault 1 (forces_of kernel.decls) tallies ≡ None → AreForces edge kernel entries i row
     forces_found row e clear = record { row = e ∙ row_found; no_fault = fault_found ∙ clear }
-
--- ---- few variables
-
-few_as : (name : List ℕ) (what : DeclKind) → length (force_as name what) ≤ 1
-few_as name (declared_as.Force kind scale combine) = omega arith
-few_as name (declared_as.Epi kind scale field) = omega arith
-few_as name (declared_as.Epj kind scale field) = omega arith
-few_as name (declared_as.Param scale value) = omega arith
-
-few_forces : (decls : List Decl) → length (forces_of decls) ≤ length (flat_map (λ d. d.place ∷ []) decls)
-few_forces [] = omega arith
-few_forces (d ∷ decls) =
-    let one = few_as d.name d.what in
-    let more = few_forces decls in
-    let long = length-append (force_as d.name d.what) (forces_of decls) in
-    omega (arith, one, more, long)
-
-pub forces_fit : (kernel : Kernel) → KeepsLimits kernel → length (forces_of kernel.decls) < 2 ^ 31
-forces_fit kernel h =
-    let few = few_forces kernel.decls in
-    let all = h.few in
-    let long = length-append (flat_map (λ d. d.place ∷ []) kernel.decls) (flat_map stmt_nodes kernel.body) in
-    omega (arith, few, all, long)
 
 -- ---- by the answer of a row
 

@@ -1,5 +1,4 @@
 pub mod Tally
-pub mod Targets
 pub mod Partner
 pub mod Gathered
 pub mod Rows

@@ -12,11 +12,9 @@ use crate::partner::Partner;
 use crate::row::row;
 use crate::seen::{exerted, received};
 use crate::tally::Tally;
-use crate::targets::targets_of;
 use kern_meaning::{Scratch, for_kernel, pair};
 use kern_token::Name;
-use kern_tree::parsed_kernels_keep_limits;
-use kern_types::{Typed, forces, kernel, slots};
+use kern_types::{Typed, forces, forces_and_slots_are_few, kernel, slots, targets};
 use pf_geom::Edge;
 use pf_model::{Body, MOST_PARTICLES};
 use pf_num::OutOfMemory;
@@ -47,7 +45,7 @@ pub fn work_for(alloc: Global, t: &Typed, edge: Edge) -> Result<Work, OutOfMemor
         edge,
         room: PairRoom {
             scratch: for_kernel(alloc, t)?,
-            targets: targets_of(alloc, kernel(t).body.as_slice())?,
+            targets: targets(alloc, t)?,
             tallies: nothing_yet(alloc, forces(t))?,
         },
     })
@@ -74,7 +72,7 @@ pub(crate) fn forces_on(
     ensures fault { IfErr result (λ what. (entries : List ListEntry) → partners.now ≡ map partner_of entries
         → force_fault edge t.now entries i.now ≡ Some what) }
 {
-    parsed_kernels_keep_limits();
+    forces_and_slots_are_few();
     let _kernel = kernel(t);
     match gather_pairs(t, edge, partners, i, work) {
         Ok(()) => row(forces(t), &work.tallies, numbers),

@@ -14,8 +14,7 @@ use crate::found::lesser;
 use crate::partner::{Partner, partners};
 use crate::row::row_width;
 use group_lists::Lists;
-use kern_tree::parsed_kernels_keep_limits;
-use kern_types::{Typed, forces, kernel};
+use kern_types::{Typed, forces, forces_and_slots_are_few, kernel};
 use pf_geom::Edge;
 use pf_model::{Body, MOST_PARTICLES};
 use pf_num::OutOfMemory;
@@ -45,7 +44,7 @@ pub fn out_for(alloc: Global, t: &Typed, lists: &Lists, group: u32) -> Result<Gr
     requires { group < length lists.now.groups }
     ensures { IfOk result (IsOutFor t.now lists.now.groups group) }
 {
-    parsed_kernels_keep_limits();
+    forces_and_slots_are_few();
     let _kernel = kernel(t);
     let width = row_width(forces(t));
     Ok(GroupOut {

@@ -13,7 +13,6 @@ mod row;
 mod seen;
 mod share;
 mod tally;
-mod targets;
 mod together;
 mod worker;
 

@@ -1,9 +1,10 @@
-use Rattle.force_phase.proofs.RowLemmas.{forces_fit, forces_answer, stop_answer, pair_stops}
+use Rattle.std.proofs.Common.{arith}
+use Rattle.force_phase.proofs.RowLemmas.{forces_answer, stop_answer, pair_stops}
 use Rattle.force_phase.proofs.force.forces_on.Goals as goal
 
 pub row-requires-clause-few : goal.row-requires-clause-few
 row-requires-clause-few c =
-    rw c.forces.ensures (forces_fit c.args.t.now (c.parsed_kernels_keep_limits.ensures c.args.t.now c.kernel-kernel.ensures.parsed))
+    rw c.forces.ensures (omega (arith, c.forces_and_slots_are_few.ensures c.args.t.now c.kernel-kernel.ensures.parsed))
 
 pub returns-in-Ok-clause-ok : goal.returns-in-Ok-clause-ok
 returns-in-Ok-clause-ok c =

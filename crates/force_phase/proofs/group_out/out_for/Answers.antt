@@ -1,15 +1,14 @@
-use Rattle.std.proofs.Common.{◌≡◌, ℕ, length, map, ap, subst, ◌∙◌}
+use Rattle.std.proofs.Common.{◌≡◌, ℕ, length, map, ap, subst, ◌∙◌, arith}
 use Rattle.std.specs.List.{All}
 use Rattle.kern_types.specs.Declarations.{forces_of}
 use Rattle.force_phase.specs.Outcome.{row_width}
 use Rattle.force_phase.specs.Partner.{partner_of}
 use Rattle.force_phase.proofs.FoundLemmas.{part_at}
-use Rattle.force_phase.proofs.RowLemmas.{forces_fit}
 use Rattle.force_phase.proofs.group_out.out_for.Goals as goal
 
 pub row_width-width-requires : goal.row_width-width-requires
 row_width-width-requires c =
-    rw c.forces.ensures (forces_fit c.args.t.now (c.parsed_kernels_keep_limits.ensures c.args.t.now c.kernel-kernel.ensures.parsed))
+    rw c.forces.ensures (omega (arith, c.forces_and_slots_are_few.ensures c.args.t.now c.kernel-kernel.ensures.parsed))
 
 pub returns : goal.returns
 returns c = λ g is.
