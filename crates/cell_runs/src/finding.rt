@@ -14,8 +14,7 @@ use crate::cell_run::CellRun;
 use model_laws::{cells_inside_pass, levels_are_least, nothing_passes_at_zero};
 use opening_test::LeastGaps;
 use pf_geom::{
-    Box3, Cell, DEEPEST, levels_take_three_bits, positions_have_cells,
-    positions_share_lower_cells,
+    Box3, Cell, DEEPEST, levels_take_three_bits, positions_have_cells, positions_share_lower_cells,
 };
 use pf_model::{MOST_PARTICLES, Steps, Theta};
 use pf_num::OutOfMemory;
