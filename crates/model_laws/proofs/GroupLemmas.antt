@@ -3,16 +3,16 @@ use Rattle.std.proofs.Common.{◌≡◌, ℕ, zero, suc, ◌+◌, ◌-◌, ◌*�
 use Rattle.std.proofs.Math.Nat.{mul_assoc, mul-div_cancel, pow-suc}
 use Rattle.std.proofs.lemmas.Nat.{pow-add}
 use Rattle.std.proofs.lemmas.Bool.{cases_lt, leb-true, leb-false, le-leb, lt-leb, ltb-true, ltb-false, lt-ltb}
-use Rattle.std.proofs.lemmas.List.{get_or_default}
+use Rattle.std.proofs.lemmas.List.{get_or_default, length-map}
 use Rattle.pf_geom.specs.Position.{Position}
 use Rattle.pf_geom.specs.Octant.{Octant, cell_at, ancestor_at, IsIn}
 use Rattle.pf_geom.specs.CellLaws.{CellsOfAPositionNest, PositionsShareLowerCells}
 use Rattle.order_laws.specs.Order.{least_below}
-use Rattle.order_laws.specs.OrderLaws.{RisingListsAreOne}
+use Rattle.order_laws.specs.OrderLaws.{RisingListsAreOne, OrdersAreShort}
 use Rattle.std.specs.List.{AllPairs, Contains}
 use Rattle.pf_model.specs.Particle.{Particle}
 use Rattle.pf_model.specs.Group.{particles_in, group_level, group_cell, has_lower_corner, group_cells}
-use Rattle.model_laws.specs.GroupLaws.{IsGroupLevel, GroupLevelsAreLeast, PositionsShareTheirGroup, MembersShareTheirGroup, AreGroupCells, GroupCellsAreOrdered, EachIsInOneGroup}
+use Rattle.model_laws.specs.GroupLaws.{IsGroupLevel, GroupLevelsAreLeast, PositionsShareTheirGroup, MembersShareTheirGroup, AreGroupCells, GroupCellsAreOrdered, EachIsInOneGroup, GroupsAreFew}
 use Rattle.order_laws.proofs.LeastLemmas.{IsLeast, IsLeast-least_below}
 use Rattle.order_laws.proofs.OrderLemmas.{In, IsStrict, IsConnected, IsAscending, IsAscending-in_order, in_from_in_order, in_order_from_in}
 use Rattle.order_laws.proofs.ElementLemmas.{in_from_contains, contains_from_in, before_at, one_place}
@@ -219,3 +219,11 @@ each_is_in_one_group nest share limit own j inside =
     (let is : get_or cells i d ≡ c = ap (λ (n : ℕ). get_or cells n d) e ∙ at_place d in
     ap (λ (b : Octant). cell_at j.at b.level) is ∙ sym is) in
     (there.0, there.1, λ i d within. (only i d within, found i d within))
+
+-- there are no more groups than particles
+pub groups_are_few : OrdersAreShort Octant → GroupsAreFew
+unfolding group_cells
+groups_are_few short limit own =
+    let long = short has_lower_corner (map (cell_of_group limit own) own) in
+    let same = length-map own (cell_of_group limit own) in
+    omega arith

@@ -4,7 +4,6 @@ mod CutLemmas
 mod DifferenceLemmas
 mod DomainLemmas
 mod DomainOrderLemmas
-mod FewLemmas
 mod GroupLemmas
 mod GroupOrderLemmas
 mod IdLemmas

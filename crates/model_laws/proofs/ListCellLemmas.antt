@@ -1,14 +1,14 @@
 -- The cells and the particles of a list, each by itself.
-use Rattle.std.proofs.Common.{◌≡◌, ℕ, suc, ◌≤◌, Bool, true, false, List, [], ◌∷◌, length, map, get_or, Option, Some, None, refl, sym, ◌∙◌, ap, subst, arith}
+use Rattle.std.proofs.Common.{◌≡◌, ℕ, ◌≤◌, Bool, true, false, List, [], ◌∷◌, length, map, get_or, Option, Some, None, refl, sym, ◌∙◌, ap, subst, arith}
 use Rattle.std.specs.List.{filter, Contains}
-use Rattle.std.proofs.lemmas.Bool.{eqb-true, and_parts, false≢true, cond_both}
+use Rattle.std.proofs.lemmas.Bool.{eqb-true, and_parts, false≢true}
 use Rattle.std.proofs.lemmas.List.{length-map}
 use Rattle.std.proofs.lemmas.List.Elements.{filter_agree, Contains-get_or}
 use Rattle.pf_geom.specs.Position.{Position}
 use Rattle.pf_geom.specs.Bounds.{Bounds}
 use Rattle.pf_geom.specs.Octant.{Octant, IsCell, cell_at, ancestor_at, IsIn}
 use Rattle.pf_geom.specs.CellLaws.{CellsOfAPositionNest, PositionsShareLowerCells, PositionsHaveCells}
-use Rattle.order_laws.specs.Order.{placed, in_order_once}
+use Rattle.order_laws.specs.OrderLaws.{OrdersAreShort}
 use Rattle.pf_model.specs.declared.entry.Entry.{Entry}
 use Rattle.pf_model.specs.declared.entry.Entry.TheVariants.{Cell, One}
 use Rattle.pf_model.specs.Particle.{Particle}
@@ -24,20 +24,10 @@ use Rattle.model_laws.proofs.LevelLemmas.{none_from_level, level_from_none, firs
 use Rattle.model_laws.proofs.ListLemmas.{IsListOf-list_of}
 use Rattle.model_laws.proofs.MemberLemmas.{in_cell, cell_has, same_from_is_cell}
 
-length-placed : {X : Type 0} (before : X → X → Bool) (x : X) (ys : List X) → length (placed before x ys) ≤ suc (length ys)
-length-placed before x [] = omega arith
-length-placed {X} before x (y ∷ ys) =
-    let P : List X → Type 0 = λ l. length l ≤ suc (suc (length ys)) in
-    cond_both (before x y) _ _ P (λ _. omega arith) (λ _. cond_both (before y x) _ _ P (λ _. let rest = length-placed before x ys in omega arith) (λ _. omega arith))
-
-pub length-in_order : {X : Type 0} (before : X → X → Bool) (xs : List X) → length (in_order_once before xs) ≤ length xs
-length-in_order before [] = omega arith
-length-in_order before (x ∷ xs) = let more = length-placed before x (in_order_once before xs) in let rest = length-in_order before xs in omega arith
-
-pub lists_are_short : ListsAreShort
+pub lists_are_short : OrdersAreShort Entry → ListsAreShort
 unfolding list_of
-lists_are_short t box js =
-    let long = length-in_order comes_before (map (entry_of t box js) js) in
+lists_are_short short t box js =
+    let long = short comes_before (map (entry_of t box js) js) in
     let same = length-map js (entry_of t box js) in
     omega arith
 

@@ -1,15 +1,15 @@
 -- The places of entries in lists, and lists without cells.
-use Rattle.std.proofs.Common.{◌≡◌, ℕ, Bool, true, false, cond, List, [], ◌∷◌, map, inl, inr, Option, Some, None, refl, sym, ◌∙◌, ap, arith}
+use Rattle.std.proofs.Common.{◌≡◌, ℕ, true, List, [], ◌∷◌, map, inl, inr, Option, Some, None, refl, sym, ◌∙◌, ap, arith}
 use Rattle.std.specs.List.{All}
 use Rattle.std.specs.Prelude.{nat_lt}
 use Rattle.std.proofs.lemmas.Bool.{ltb-true, lt-ltb, false≢true, false_from_ne_true}
 use Rattle.std.proofs.lemmas.List.Elements.{All-head, All-tail}
 use Rattle.pf_geom.specs.Bounds.{Bounds}
-use Rattle.order_laws.specs.Order.{placed, in_order_once}
+use Rattle.order_laws.specs.Order.{in_order_once}
+use Rattle.order_laws.specs.OrderLaws.{MapsKeepOrders}
 use Rattle.pf_model.specs.declared.entry.Entry.{Entry}
 use Rattle.pf_model.specs.declared.entry.Entry.TheVariants.{Cell, One}
 use Rattle.pf_model.specs.Particle.{Particle}
-use Rattle.pf_model.specs.Particles.{by_id}
 use Rattle.pf_model.specs.Criterion.{Criterion}
 use Rattle.pf_model.specs.Interaction.{level_of, entry_at, entry_of, comes_before, entry_place, list_of}
 use Rattle.model_laws.specs.ListLaws.{NonePasses, ListsOfNearAreParticles, EntryOrderIsStrict, HasLevel, IsLowerPlace, EntriesHaveLevels, EntriesStandByPlace, EntriesAtOnePlaceAreOne}
@@ -70,22 +70,7 @@ all_near t box js (k ∷ ks) near =
     let tail = all_near t box js ks (All-tail P k ks near) in
     λ i. entry_at t box js k (head i) ∷ tail i
 
-abbrev has_lower_id : Particle → Particle → Bool
-has_lower_id p q = nat_lt p.id q.id
-
-choice : (b c : Bool) (xs ys zs : List Particle) → cond b (map One xs) (cond c (map One ys) (map One zs)) ≡ map One (cond b xs (cond c ys zs))
-choice true c xs ys zs = refl
-choice false true xs ys zs = refl
-choice false false xs ys zs = refl
-
-placed_as_particles : (p : Particle) (qs : List Particle) → placed comes_before (One p) (map One qs) ≡ map One (placed has_lower_id p qs)
-placed_as_particles p [] = refl
-placed_as_particles p (q ∷ qs) = rw (placed_as_particles p qs) (choice (has_lower_id p q) (has_lower_id q p) (p ∷ q ∷ qs) (q ∷ placed has_lower_id p qs) (q ∷ qs))
-
-in_order_of_ids : (ps : List Particle) → in_order_once comes_before (map One ps) ≡ map One (by_id ps)
-in_order_of_ids [] = refl
-in_order_of_ids (p ∷ ps) = ap (placed comes_before (One p)) (in_order_of_ids ps) ∙ placed_as_particles p (by_id ps)
-
-pub lists_of_near_are_particles : ListsOfNearAreParticles
+pub lists_of_near_are_particles : MapsKeepOrders Particle Entry → ListsOfNearAreParticles
 unfolding list_of
-lists_of_near_are_particles t box js near = ap (in_order_once comes_before) (all_near t box js js near) ∙ in_order_of_ids js
+lists_of_near_are_particles keep t box js near =
+    ap (in_order_once comes_before) (all_near t box js js near) ∙ keep One (λ p q. nat_lt p.id q.id) comes_before js (λ p q. refl)

@@ -5,7 +5,7 @@ ghost use Rattle.model_laws.specs.GroupLaws.{GroupLevelsAreLeast, PositionsShare
 ghost use Rattle.model_laws.specs.GroupLaws.{GroupCellsAreOrdered, EachIsInOneGroup, GroupsIgnoreOrder};
 ghost use Rattle.model_laws.specs.GroupLaws.{GroupsOfOneAreOnePlace, GroupsAreFew, BoxesAreLeast, BoxesIgnoreOrder};
 
-use order_laws::rising_lists_are_one;
+use order_laws::{orders_are_short, rising_lists_are_one};
 use pf_geom::{Cell, cells_of_a_position_nest, keys_are_distinct, positions_share_lower_cells};
 
 /// The level of a position's group is the least at which its cell has few enough particles, or the deepest.
@@ -39,7 +39,9 @@ pub fn group_cells_are_ordered()
 /// There are no more groups than particles.
 pub fn groups_are_few()
     ensures { GroupsAreFew }
-{}
+{
+    orders_are_short::<Cell>();
+}
 
 /// Each particle lies in the cell of exactly one group.
 pub fn each_is_in_one_group()

@@ -8,7 +8,9 @@ ghost use Rattle.model_laws.specs.ListLaws.{EntryOrderIsStrict, EntriesHaveLevel
 ghost use Rattle.model_laws.specs.ListLaws.{EntriesAtOnePlaceAreOne};
 
 use crate::opening_laws::passing_cells_lie_apart;
+use order_laws::{maps_keep_orders, orders_are_short};
 use pf_geom::{cells_of_a_position_nest, positions_have_cells, positions_share_lower_cells};
+use pf_model::{Body, Entry};
 
 /// The level of a position is the least at which its cell passes the opening test.
 pub fn levels_are_least()
@@ -33,7 +35,9 @@ pub fn lists_ignore_order()
 /// A list is no longer than its particles.
 pub fn lists_are_short()
     ensures { ListsAreShort }
-{}
+{
+    orders_are_short::<Entry>();
+}
 
 /// The particles that lead to the first passing cell of a position are those in it.
 pub fn first_cells_hold_their_members()
@@ -66,7 +70,9 @@ pub fn particles_in_the_box_are_near()
 /// Where no cell passes, the list is the particles by id.
 pub fn lists_of_near_are_particles()
     ensures { ListsOfNearAreParticles }
-{}
+{
+    maps_keep_orders::<Body, Entry>();
+}
 
 /// The order of entries is strict.
 pub fn entry_order_is_strict()

@@ -2,7 +2,7 @@
 // proof needs a law calls its function.
 
 ghost use Rattle.order_laws.specs.OrderLaws.{ListsInOrderAreOne, RisingListsAreOne, DistinctKeysRise, SortsByKeyAreOne};
-ghost use Rattle.order_laws.specs.OrderLaws.{MapsKeepOrders};
+ghost use Rattle.order_laws.specs.OrderLaws.{MapsKeepOrders, OrdersAreShort};
 
 /// Elements in whatever order have one list in which each comes before all later ones.
 pub fn lists_in_order_are_one<X>()
@@ -27,4 +27,9 @@ pub fn sorts_by_key_are_one<X>()
 /// A map that keeps an order makes of the list in order the list of what it makes, in order.
 pub fn maps_keep_orders<X, Y>()
     ensures { MapsKeepOrders X Y }
+{}
+
+/// A list in order is no longer than its elements.
+pub fn orders_are_short<X>()
+    ensures { OrdersAreShort X }
 {}
