@@ -6,6 +6,7 @@ use Rattle.std.proofs.lemmas.Bool.{cases_lt, and_from, and_parts, ltb-true}
 use Rattle.std.proofs.lemmas.List.{get_or_past}
 use Rattle.pf_model.specs.declared.entry.Entry.{Entry}
 use Rattle.pf_model.specs.Division.{IsDivision}
+use Rattle.model_laws.specs.GroupLaws.{GroupsAreFew}
 use Rattle.step_core.specs.declared.event.Event.{Event}
 use Rattle.step_core.specs.declared.event.Event.TheVariants.{Put, Take, Claim}
 use Rattle.step_core.specs.Core.{Settings, IsSettings, CoreState, start, ranks_of, numbered_groups, inbox_of, held_by, is_ready, next_group, is_legal, after, are_legal, after_all, partial_lists}
@@ -91,11 +92,11 @@ claim_within s state lists worker h legal =
     let long = (kept_reached s state lists h).shared.long in
     omega arith
 
-pub claim_few : (s : Settings) (state : CoreState) (lists : List (List Entry)) (worker : ℕ) → IsKeptCore s state lists → is_legal s state (Claim worker) ≡ true → state.claims + 1 < 2 ^ 32
-claim_few s state lists worker h legal =
+pub claim_few : GroupsAreFew → (s : Settings) (state : CoreState) (lists : List (List Entry)) (worker : ℕ) → IsKeptCore s state lists → is_legal s state (Claim worker) ≡ true → state.claims + 1 < 2 ^ 32
+claim_few law s state lists worker h legal =
     let ready = and_parts (nat_lt worker s.workers && is_none (held_by state worker)) (is_ready s state (next_group s state)) legal in
     let left : state.claims < length (numbered_groups s) = some_group s state state.claims ready.1 in
-    let few = few_groups s h.past.1.division h.past.1.settings in
+    let few = few_groups law s h.past.1.division h.past.1.settings in
     omega arith
 
 -- ---- an event that may be refused

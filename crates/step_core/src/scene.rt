@@ -12,7 +12,7 @@ use crate::progress::Progress;
 use crate::sequence::Sequence;
 use crate::setup::Setup;
 use crate::site::Site;
-use model_laws::some_have_distinct_ids;
+use model_laws::{groups_are_few, some_have_distinct_ids};
 use pf_model::{Body, Entry, Grid, slow_list};
 use pf_num::OutOfMemory;
 use std::alloc::Global;
@@ -42,6 +42,7 @@ impl Scene {
         requires { IsSettings setup }
         ensures { IfOk result (λ scene. scene ≡ setup) }
     {
+        groups_are_few();
         let cuts = cut(alloc, &setup.bodies, setup.grid)?;
         let sites = sites_by(
             alloc,

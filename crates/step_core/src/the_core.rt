@@ -9,6 +9,7 @@ use crate::progress::Progress;
 use crate::scene::Scene;
 use crate::sequence::Sequence;
 use crate::setup::Setup;
+use model_laws::groups_are_few;
 use pf_model::Entry;
 use pf_num::OutOfMemory;
 use std::alloc::Global;
@@ -88,6 +89,7 @@ impl Core {
         ensures ok { OnOk result (self.new ≡ record self.old { state = after self.old.state e }) }
         ensures err { OnErr result (self.new ≡ self.old) }
     {
+        groups_are_few();
         match e {
             Event::Put(src, dst) => self.progress.put(src, dst),
             Event::Take(rank) => self.take(alloc, rank),

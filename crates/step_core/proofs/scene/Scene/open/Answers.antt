@@ -24,6 +24,6 @@ invariant_of-result c =
       sites = sites;
       few =
           (let long = ap length sites ∙ length-map (numbered_groups s) listed_site in
-          let few = few_groups s (subst IsDivision grid c.rank_count.ensures.division) c.requires in
+          let few = few_groups c.groups_are_few.ensures s (subst IsDivision grid c.rank_count.ensures.division) c.requires in
           omega arith);
     }

@@ -27,7 +27,7 @@ claim-requires-clause-worker c =
 pub claim-requires-clause-few : goal.claim-requires-clause-few
 claim-requires-clause-few c =
     let legal = (λ i. legal_in (c.self-in-Claim.view_is i) (sym c.in-Claim.is i)) ∙ c.requires in
-    claim_few c.self-in-Claim.inside.scene c.self-in-Claim.inside.progress c.self-in-Claim.inside.lists.items c.in-Claim.worker c.self-in-Claim.invariant legal
+    claim_few c.groups_are_few.ensures c.self-in-Claim.inside.scene c.self-in-Claim.inside.progress c.self-in-Claim.inside.lists.items c.in-Claim.worker c.self-in-Claim.invariant legal
 
 pub invariant_of-self-in-Claim : goal.invariant_of-self-in-Claim
 invariant_of-self-in-Claim c =
