@@ -17,5 +17,5 @@ returns c =
       same = moved;
       in_order =
           c.distinct_keys_rise.ensures (λ r. r.id) sorted (IsDistinct-IsPermutation nat_eq either_way _ _ (IsPermutation-map (λ r. r.id) _ sorted moved) c.requires)
-              (IsNonDecreasingBy-from_sort_by_key (λ (r : IdRow). r.id) sorted c.sort_unstable_by_key.ensures.sorted (λ a r f k. search (rules, of_calls)));
+          (IsNonDecreasingBy-from_sort_by_key (λ (r : IdRow). r.id) sorted c.sort_unstable_by_key.ensures.sorted (λ a r f k. search (rules, of_calls)));
     }
