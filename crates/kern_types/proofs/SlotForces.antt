@@ -1,9 +1,7 @@
 -- The FORCE variables of slots.
-use Rattle.std.proofs.Common.{◌≡◌, ℕ, List, [], ◌∷◌, ◌++◌, Some, Ok, length, map, flat_map, refl, sym, ap, ◌∙◌, subst, arith, length-append}
+use Rattle.std.proofs.Common.{◌≡◌, ℕ, List, [], ◌∷◌, ◌++◌, Some, Ok, length, map, refl, sym, ap, ◌∙◌, subst, arith, length-append}
 use Rattle.std.specs.List.{AllByRecursion}
 use Rattle.kern_tree.specs.declared.kernel.Decl.{Decl}
-use Rattle.kern_tree.specs.declared.stmt.Act.{Act}
-use Rattle.kern_tree.specs.declared.stmt.Act.TheFolds.{fold-Act}
 use Rattle.kern_tree.specs.declared.stmt.Stmt.{Stmt}
 use Rattle.kern_tree.specs.Limits as limits
 use Rattle.kern_tree.specs.Limits.{IsLimitedStmt, IsLimitedBlock, ParsedKernelsKeepLimits}
