@@ -19,12 +19,12 @@ use crate::keyed_tree::KeyedTree;
 use crate::laws::{groups_are_served, items_lie_by_place};
 use crate::listed::Listed;
 use crate::lists::Lists;
-use morton_tree::{Group, Tree};
-use pf_geom::DEEPEST;
 use model_laws::{
     all_ranks_have_all, distinct_ids_ignore_order, lists_are_short, lists_hold_their_entries,
     lists_ignore_order, one_rank_has_its_own, some_have_distinct_ids,
 };
+use morton_tree::{Group, Tree};
+use pf_geom::DEEPEST;
 use pf_model::{Body, Entry, EssTree, MOST_PARTICLES, Steps, Terms, Theta};
 use pf_num::OutOfMemory;
 use std::alloc::Global;

@@ -14,11 +14,11 @@ use crate::item_index::ItemIndex;
 use crate::kept_source::KeptSource;
 use crate::key_order::{items_in_order, key_order, places_of};
 use cell_runs::cell_key;
-use pf_geom::{Cell, corner, key_of};
 use model_laws::{
     entries_join_their_moments, lists_are_short, lists_hold_their_entries, lists_merge,
     moments_join_in_any_order, some_have_distinct_ids,
 };
+use pf_geom::{Cell, corner, key_of};
 use pf_model::{Entry, EssTree, MOST_PARTICLES, Moment, Terms};
 use pf_num::OutOfMemory;
 use std::alloc::Global;

@@ -5,17 +5,18 @@ ghost use Rattle.group_lists.specs.PieceLaws.{PiecesMakeLists, PiecesAreInOrder,
 ghost use Rattle.group_lists.specs.PieceLaws.{GroupsAreServed, ItemsMakePieces, ItemsLieByPlace};
 
 use cell_runs::{runs_hold_each_place, runs_rise};
-use pf_geom::{
-    cells_of_a_position_nest, corners_lie_inside, positions_have_cells, positions_share_lower_cells,
-};
 use model_laws::{
     boxes_lie_in_domains, cells_pass_for_boxes_inside, distinct_ids_ignore_order,
     entries_add_up_their_items, entries_join_in_any_order, entry_order_is_strict, levels_are_least,
     lists_are_short, lists_hold_first_cells, lists_hold_near_particles, lists_hold_their_entries,
     lists_ignore_order, lists_merge, merged_lists_share_cells, moments_keep_their_limits,
-    one_rank_has_its_own, particles_of_one_id_are_one, ranks_have_their_own, some_have_distinct_ids,
+    one_rank_has_its_own, particles_of_one_id_are_one, ranks_have_their_own,
+    some_have_distinct_ids,
 };
 use order_laws::tests_keep_permutations;
+use pf_geom::{
+    cells_of_a_position_nest, corners_lie_inside, positions_have_cells, positions_share_lower_cells,
+};
 use pf_model::Entry;
 
 // The list of a group with one source more is its list and the pieces, merged.

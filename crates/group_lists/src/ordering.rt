@@ -6,8 +6,8 @@ ghost use Rattle.pf_model.specs.Criterion.{Criterion};
 ghost use Rattle.pf_model.specs.Interaction.{entry_place, list_of};
 ghost use Rattle.group_lists.specs.Runs.{HasEntriesOf};
 
-use pf_geom::DEEPEST;
 use model_laws::{levels_are_least, lists_hold_their_entries, particles_of_one_id_are_one};
+use pf_geom::DEEPEST;
 use pf_model::Entry;
 
 // Particles come after cells of every level.

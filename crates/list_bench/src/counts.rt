@@ -4,9 +4,9 @@ ghost use Rattle.pf_model.specs.Division.{rank_count};
 
 use crate::fault::BenchFault;
 use group_lists::{Gather, Lists, MOST_ENTRIES};
+use model_laws::lone_ranks_have_all;
 use morton_tree::Tree;
 use pf_geom::Edge;
-use model_laws::lone_ranks_have_all;
 use pf_model::{Body, Build, Entry, Grid, Steps, Terms, Theta};
 use std::alloc::Global;
 use std::marker::Brand;

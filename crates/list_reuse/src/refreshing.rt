@@ -6,11 +6,11 @@ ghost use Rattle.list_reuse.specs.Refreshing.{IsKeptOf, present_items};
 
 use crate::refresh::Refresh;
 use essential_tree::Sent;
-use morton_tree::Tree;
 use model_laws::{
     lists_hold_their_entries, moments_ignore_order, present_are_found, present_entries_are_found,
     some_have_distinct_ids,
 };
+use morton_tree::Tree;
 use pf_model::Entry;
 use pf_num::OutOfMemory;
 use std::alloc::Global;

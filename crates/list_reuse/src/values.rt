@@ -5,8 +5,8 @@ ghost use Rattle.list_reuse.specs.Refreshing.{Renewal};
 ghost use Rattle.list_reuse.specs.Renewing.{values_at};
 
 use crate::refresh::Refresh;
-use morton_tree::Span;
 use model_laws::{entries_join_their_moments, moments_join_in_any_order};
+use morton_tree::Span;
 use pf_model::{Entry, MOST_PARTICLES, Moment};
 
 // The values that came from a rank.
