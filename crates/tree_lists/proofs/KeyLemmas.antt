@@ -4,7 +4,6 @@ use Rattle.std.specs.List.{All}
 use Rattle.std.specs.List.Sorted.{IsNonDecreasing}
 use Rattle.std.proofs.lemmas.Bool.{cases_lt, ltb-true, eqb-true, or_cases, and_parts}
 use Rattle.std.proofs.lemmas.List.{length-map, get_or-map}
-use Rattle.pf_geom.specs.Position.{Position}
 use Rattle.pf_geom.specs.Key.{morton_key}
 use Rattle.pf_geom.specs.Octant.{Octant, cell_at}
 use Rattle.pf_geom.specs.CellLaws.{KeysFit}
