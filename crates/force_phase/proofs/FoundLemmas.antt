@@ -1,7 +1,7 @@
 -- What the particles of groups gave, as all their forces or the least of their faults.
 use Rattle.std.proofs.Common.{◌≡◌, ℕ, ◌+◌, ℤ, ◌≤◌, Bool, true, false, zero, suc, List, [], ◌∷◌, ◌++◌, length, get_or, set, take, Result, Ok, Err, Option, Some, None, map, nat_eq, ◌<◌, inl, inr, refl, sym, ap, ◌∙◌, subst, arith}
-use Rattle.std.specs.Prelude.{nat_le, slice_get, IfOk, IfErr, OnOk}
-use Rattle.std.specs.List.{Contains, IsDistinct, cons_option, filter_map, flat_map, fold}
+use Rattle.std.specs.Prelude.{nat_le, slice_get, IfErr, OnOk}
+use Rattle.std.specs.List.{Contains, IsDistinct, cons_option, filter_map, fold}
 use Rattle.std.specs.Option.{option_map}
 use Rattle.std.proofs.lemmas.Bool.{leb-true, leb-false}
 use Rattle.std.proofs.lemmas.List.{append-nil, map-append, take_all, take_more, take_more_set, map_more}
@@ -23,12 +23,12 @@ use Rattle.force_phase.specs.declared.phase.PhaseFault.TheVariants.{Numeric, Mem
 use Rattle.force_phase.specs.Forces.{AreForces}
 use Rattle.force_phase.specs.declared.partner.Partner.{Partner}
 use Rattle.force_phase.specs.Partner.{partner_of}
-use Rattle.force_phase.specs.Found.{FoundSoFar, nothing, lesser, under_ids, with_rows, with_fault, in_order_of_id, IsLeastOf}
+use Rattle.force_phase.specs.Found.{FoundSoFar, nothing, lesser, under_ids, with_rows, with_fault, IsLeastOf}
 use Rattle.force_phase.specs.Finished.{IsLeastOrNone, IsFoundIn}
 use Rattle.force_phase.specs.declared.group_out.Outcome.TheVariants as outcomes
 use Rattle.force_phase.specs.declared.group_out.Outcome.TheVariants.{Done}
 use Rattle.force_phase.specs.Outcome.{with_stop, faults_of, IsLeast, IsOutcome}
-use Rattle.force_phase.specs.Phase.{bodies_in, rows_in, rows_by_id, fault_of, faults_in, StopsPhase}
+use Rattle.force_phase.specs.Phase.{bodies_in, rows_in, fault_of, faults_in, StopsPhase}
 
 -- ---- the least of faults
 

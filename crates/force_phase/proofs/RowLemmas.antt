@@ -1,5 +1,5 @@
 -- The rows of tallies are forces.
-use Rattle.std.proofs.Common.{◌≡◌, ℕ, ◌+◌, ◌<◌, ◌≤◌, ◌^◌, length, length-append, Result, Ok, Err, ℤ, pos, ◌+ℤ◌, Bool, true, false, List, [], ◌∷◌, ◌++◌, Option, Some, None, map, flat_map, refl, sym, ap, ◌∙◌, arith}
+use Rattle.std.proofs.Common.{◌≡◌, ℕ, ◌+◌, Result, Ok, Err, ℤ, pos, ◌+ℤ◌, Bool, true, false, List, [], ◌∷◌, ◌++◌, Option, Some, None, map, flat_map, refl, sym, ap, ◌∙◌, arith}
 use Rattle.std.specs.List.{fold, list_all, enumerate_from}
 use Rattle.std.specs.Prelude.{slice_index_or, IfErr, OnOk}
 use Rattle.std.proofs.lemmas.Int.{ints}

@@ -1,4 +1,4 @@
-use Rattle.std.proofs.Common.{◌≡◌, List, length, map}
+use Rattle.std.proofs.Common.{◌≡◌, length, map}
 use Rattle.std.specs.List.{All}
 use Rattle.group_lists.specs.Whole.{GroupList}
 use Rattle.kern_types.specs.Declarations.{forces_of}
