@@ -13,12 +13,12 @@ ghost use Rattle.tree_lists.specs.Pieces.{IsPieceOf, ArePieces, AreEntriesOf, Is
 use crate::piece::Piece;
 use crate::pieces::pieces_of;
 use cell_runs::{CellRun, cell_key};
-use morton_tree::{Span, Tree};
-use pf_geom::{Box3, Cell, DEEPEST, positions_have_cells};
 use model_laws::{
     entries_at_one_place_are_one, entries_have_levels, entries_stand_by_place, levels_are_least,
     lists_hold_their_entries,
 };
+use morton_tree::{Span, Tree};
+use pf_geom::{Box3, Cell, DEEPEST, positions_have_cells};
 use pf_model::{Entry, Steps, Theta};
 use pf_num::OutOfMemory;
 use std::alloc::Global;

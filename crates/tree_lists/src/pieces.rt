@@ -4,9 +4,9 @@ ghost use Rattle.tree_lists.specs.Pieces.{piece_of, IsRunAmong, ArePiecesOf, Are
 
 use crate::piece::Piece;
 use cell_runs::{CellRun, find_runs, runs_hold_each_place, runs_rise};
+use model_laws::{first_cells_hold_their_members, levels_are_least};
 use morton_tree::{Span, Tree};
 use pf_geom::{Box3, DEEPEST, keys_fit};
-use model_laws::{first_cells_hold_their_members, levels_are_least};
 use pf_model::{Body, Steps, Theta};
 use pf_num::OutOfMemory;
 use std::alloc::Global;
