@@ -7,7 +7,7 @@ use Rattle.command_frame.specs.Standing.{Standing, IfBoth, IfTold}
 use Rattle.command_frame.specs.Status.{failed_call, count_of, counts_after}
 use Rattle.command_frame.specs.Verdict.{Verdict, lacks, stops, writes, speaks, AtMostOne}
 use Rattle.command_frame.specs.declared.status.Status.{Status}
-use Rattle.command_frame.specs.declared.status.Status.TheVariants.{Done, Usage, Refused, Numeric, Lists, NotBuilt, StoreFault, Memory}
+use Rattle.command_frame.specs.declared.status.Status.TheVariants.{Done, Usage, Refused, Numeric, Lists, StoreFault, Memory}
 use Rattle.command_frame.specs.declared.status.StoreCall.{StoreCall}
 use Rattle.command_frame.specs.declared.status.StoreCall.TheVariants.{Open, Read, Create, Write, Say}
 use Rattle.command_frame.proofs.Counting.{rises, rises_to_say, say_alone, no_fault_of, says_kept, fault_or_none, counted_none, counted_call}
@@ -21,7 +21,6 @@ silent M Usage old new ne h = h
 silent M (Refused refusal) old new ne h = h
 silent M (Numeric step fault) old new ne h = h
 silent M (Lists step count) old new ne h = h
-silent M (NotBuilt part) old new ne h = h
 silent M (StoreFault call) old new ne h = h
 silent M Memory old new ne h = h
 

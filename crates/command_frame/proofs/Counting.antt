@@ -4,7 +4,7 @@ use Rattle.pf_io.specs.Store.{Faults, one_more_say}
 use Rattle.command_frame.specs.Clauses.{IsJudgement, HasLine}
 use Rattle.command_frame.specs.Status.{failed_call, count_of, one_more, counts_after}
 use Rattle.command_frame.specs.declared.status.Status.{Status}
-use Rattle.command_frame.specs.declared.status.Status.TheVariants.{Done, Usage, Refused, Numeric, Lists, NotBuilt, StoreFault, Memory}
+use Rattle.command_frame.specs.declared.status.Status.TheVariants.{Done, Usage, Refused, Numeric, Lists, StoreFault, Memory}
 use Rattle.command_frame.specs.declared.status.StoreCall.{StoreCall}
 use Rattle.command_frame.specs.declared.status.StoreCall.TheVariants.{Open, Read, Create, Write, Say}
 
@@ -36,7 +36,6 @@ no_fault_of Usage j = refl
 no_fault_of (Refused refusal) j = refl
 no_fault_of (Numeric step fault) j = refl
 no_fault_of (Lists step count) j = refl
-no_fault_of (NotBuilt part) j = refl
 no_fault_of (StoreFault call) j = absurd j
 no_fault_of Memory j = refl
 
@@ -47,7 +46,6 @@ says_kept Usage faults h = refl
 says_kept (Refused refusal) faults h = refl
 says_kept (Numeric step fault) faults h = refl
 says_kept (Lists step count) faults h = refl
-says_kept (NotBuilt part) faults h = refl
 says_kept (StoreFault Open) faults h = refl
 says_kept (StoreFault Read) faults h = refl
 says_kept (StoreFault Create) faults h = refl
@@ -61,7 +59,6 @@ fault_or_none Usage = inl refl
 fault_or_none (Refused refusal) = inl refl
 fault_or_none (Numeric step fault) = inl refl
 fault_or_none (Lists step count) = inl refl
-fault_or_none (NotBuilt part) = inl refl
 fault_or_none (StoreFault call) = inr (call, refl)
 fault_or_none Memory = inl refl
 

@@ -9,7 +9,7 @@ use Rattle.command_frame.specs.Standing.{Standing, IfBoth, IsKept}
 use Rattle.command_frame.specs.Status.{EndsReading, failed_call, counts_after}
 use Rattle.command_frame.specs.Verdict.{Verdict, lacks, stops, writes, speaks, After, AfterText, Within}
 use Rattle.command_frame.specs.declared.status.Status.{Status}
-use Rattle.command_frame.specs.declared.status.Status.TheVariants.{Done, Usage, Refused, Numeric, Lists, NotBuilt, StoreFault, Memory}
+use Rattle.command_frame.specs.declared.status.Status.TheVariants.{Done, Usage, Refused, Numeric, Lists, StoreFault, Memory}
 use Rattle.command_frame.specs.declared.status.StoreCall.{StoreCall}
 use Rattle.command_frame.specs.declared.status.StoreCall.TheVariants.{Open, Read, Create, Write, Say}
 
@@ -45,7 +45,6 @@ files_of_more M N (Lists step count) old new more h = elim h [
   | inl w ↦ inl (wrote M N (Lists step count) old new more w)
   | inr s ↦ inr (stopped M N (Lists step count) old new more s)
 ]
-files_of_more M N (NotBuilt part) old new more h = stopped M N (NotBuilt part) old new more h
 files_of_more M N (StoreFault Open) old new more h = h
 files_of_more M N (StoreFault Read) old new more h = h
 files_of_more M N (StoreFault Create) old new more h = (due M N more h.0, h.1)
@@ -62,7 +61,6 @@ said_of_more M N Usage old new more h = h
 said_of_more M N (Refused refusal) old new more h = h
 said_of_more M N (Numeric step fault) old new more h = h
 said_of_more M N (Lists step count) old new more h = h
-said_of_more M N (NotBuilt part) old new more h = h
 said_of_more M N (StoreFault call) old new more h = h
 said_of_more M N Memory old new more h = h
 
@@ -161,7 +159,6 @@ ends_after Means view next None (Refused refusal) files ends h = absurd h
 ends_after Means view next (Some text) (Refused refusal) files ends h = record { meant = inl (refusal, h, refl); kept = refl }
 ends_after Means view next there (Numeric step fault) files ends h = absurd ends
 ends_after Means view next there (Lists step count) files ends h = absurd ends
-ends_after Means view next there (NotBuilt part) files ends h = absurd ends
 ends_after Means view next there (StoreFault Open) files ends h = refl
 ends_after Means view next there (StoreFault Read) files ends h = refl
 ends_after Means view next there (StoreFault Create) files ends h = absurd ends
@@ -175,7 +172,6 @@ ends_silent M Usage said ends = refl
 ends_silent M (Refused refusal) said ends = refl
 ends_silent M (Numeric step fault) said ends = refl
 ends_silent M (Lists step count) said ends = refl
-ends_silent M (NotBuilt part) said ends = refl
 ends_silent M (StoreFault call) said ends = refl
 ends_silent M Memory said ends = refl
 
@@ -224,7 +220,6 @@ fails_there limit large Means view look None (Refused refusal) h = h
 fails_there limit large Means view look (Some text) (Refused refusal) h = elim h [ inl w ↦ let e = w.1 in cc | inr w ↦ let e = w.1 in let same : refusal ≡ large = cc in inr (w.0, ap Err same) ]
 fails_there limit large Means view look there (Numeric step fault) h = h
 fails_there limit large Means view look there (Lists step count) h = h
-fails_there limit large Means view look there (NotBuilt part) h = h
 fails_there limit large Means view look there (StoreFault Open) h = h
 fails_there limit large Means view look there (StoreFault Read) h = h
 fails_there limit large Means view look there (StoreFault Create) h = h
@@ -261,7 +256,6 @@ reads_there {X} {Y} {A} {R} {F} limit large Means view look (Some text) x answer
   by_answer (Err (Refused refusal)) short m = inl (short, m)
   by_answer (Err (Numeric step fault)) short m = m
   by_answer (Err (Lists step count)) short m = m
-  by_answer (Err (NotBuilt part)) short m = m
   by_answer (Err (StoreFault Open)) short m = absurd m
   by_answer (Err (StoreFault Read)) short m = absurd m
   by_answer (Err (StoreFault Create)) short m = m
@@ -278,7 +272,6 @@ interprets_ends Means look text (Err Usage) m = absurd m
 interprets_ends Means look text (Err (Refused refusal)) m = (tt, refl)
 interprets_ends Means look text (Err (Numeric step fault)) m = absurd m
 interprets_ends Means look text (Err (Lists step count)) m = absurd m
-interprets_ends Means look text (Err (NotBuilt part)) m = absurd m
 interprets_ends Means look text (Err (StoreFault call)) m = absurd m
 interprets_ends Means look text (Err Memory) m = (tt, refl)
 

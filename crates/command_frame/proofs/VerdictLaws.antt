@@ -3,7 +3,7 @@
 use Rattle.std.specs.Prelude.{ℕ, ◌≡◌, List, Option, Some, None, Result, Ok, Err}
 use Rattle.std.proofs.Common.{inl, inr, sym, ◌∙◌, ap, subst, arith}
 use Rattle.pf_io.specs.Store.{Files}
-use Rattle.command_frame.specs.Verdict.{Verdict, stops, AfterText, After, Within, Refusing, Unless, AtMostOne}
+use Rattle.command_frame.specs.Verdict.{Verdict, stops, AfterText, After, Within, Refusing, AtMostOne}
 use Rattle.command_frame.specs.declared.status.Status.{Status}
 use Rattle.command_frame.specs.declared.status.Status.TheVariants.{Refused}
 
@@ -38,7 +38,3 @@ one_refusing why Means sure text (Ok x) (Err r) p q = let e = sure text (Ok x) (
 one_refusing why Means sure text (Err r) (Ok y) p q = let e = sure text (Err p.0) (Ok y) p.1 q in cc
 one_refusing why Means sure text (Err r) (Err s) p q =
     let e = sure text (Err p.0) (Err q.0) p.1 q.1 in let same : p.0 ≡ q.0 = cc in ap Err (p.2 ∙ ap why same ∙ sym q.2)
-
-pub one_unless : {R F : Type 0} (ending : Option (Status R F)) (next : Verdict R F → Type 0) → AtMostOne next → AtMostOne (Unless ending next)
-one_unless None next one = one
-one_unless (Some status) next one = λ a b p q. p ∙ sym q

@@ -8,7 +8,7 @@ use Rattle.command_frame.specs.Standing.{IsFrontOf}
 use Rattle.command_frame.specs.Status.{IsRefusal, IsLast}
 use Rattle.command_frame.specs.Verdict.{Verdict, stops, writes, AtMostOne}
 use Rattle.command_frame.specs.declared.status.Status.{Status}
-use Rattle.command_frame.specs.declared.status.Status.TheVariants.{Done, Usage, Refused, Numeric, Lists, NotBuilt, StoreFault, Memory}
+use Rattle.command_frame.specs.declared.status.Status.TheVariants.{Done, Usage, Refused, Numeric, Lists, StoreFault, Memory}
 use Rattle.command_frame.specs.declared.status.StoreCall.TheVariants.{Open, Read, Create, Write, Say}
 
 -- want of memory, or a fault of opening or reading
@@ -34,7 +34,6 @@ way M Usage old new h = stopped (inl tt) h
 way M (Refused refusal) old new h = stopped (inl tt) h
 way M (Numeric step fault) old new h = elim h [ inl w ↦ wrote tt w | inr s ↦ stopped (inr (λ e. cc, tt)) s ]
 way M (Lists step count) old new h = elim h [ inl w ↦ wrote tt w | inr s ↦ stopped (inr (λ e. cc, tt)) s ]
-way M (NotBuilt part) old new h = stopped (inl tt) h
 way M (StoreFault Open) old new h = unread (inr (inl refl)) h
 way M (StoreFault Read) old new h = unread (inr (inr refl)) h
 way M (StoreFault Create) old new h = uncreated refl h.0 h.1
@@ -49,7 +48,6 @@ refusal_or_last Usage r l = l
 refusal_or_last (Refused refusal) r l = l
 refusal_or_last (Numeric step fault) r l = r
 refusal_or_last (Lists step count) r l = r
-refusal_or_last (NotBuilt part) r l = l
 refusal_or_last (StoreFault call) r l = r
 refusal_or_last Memory r l = r
 
@@ -59,7 +57,6 @@ last_keeps_not Usage l k = l
 last_keeps_not (Refused refusal) l k = l
 last_keeps_not (Numeric step fault) l k = k
 last_keeps_not (Lists step count) l k = k
-last_keeps_not (NotBuilt part) l k = l
 last_keeps_not (StoreFault call) l k = l
 last_keeps_not Memory l k = l
 

@@ -11,7 +11,7 @@ use Rattle.command_frame.specs.Standing.{IfBoth, IsWritten, IsFrontOf}
 use Rattle.command_frame.specs.Status.{IsLast, EndsWriting, failed_call}
 use Rattle.command_frame.specs.Verdict.{Verdict, writes}
 use Rattle.command_frame.specs.declared.status.Status.{Status}
-use Rattle.command_frame.specs.declared.status.Status.TheVariants.{Done, Usage, Refused, Numeric, Lists, NotBuilt, StoreFault, Memory}
+use Rattle.command_frame.specs.declared.status.Status.TheVariants.{Done, Usage, Refused, Numeric, Lists, StoreFault, Memory}
 use Rattle.command_frame.specs.declared.status.StoreCall.{StoreCall}
 use Rattle.command_frame.specs.declared.status.StoreCall.TheVariants.{Write}
 
@@ -75,7 +75,6 @@ ended Means Usage old new last h = absurd last
 ended Means (Refused refusal) old new last h = absurd last
 ended Means (Numeric step fault) old new last h = inl h
 ended Means (Lists step count) old new last h = inl h
-ended Means (NotBuilt part) old new last h = absurd last
 ended Means (StoreFault call) old new last h = absurd last
 ended Means Memory old new last h = absurd last
 
@@ -85,7 +84,6 @@ silent Means Usage old new out text last meant e = e
 silent Means (Refused refusal) old new out text last meant e = e
 silent Means (Numeric step fault) old new out text last meant e = e
 silent Means (Lists step count) old new out text last meant e = e
-silent Means (NotBuilt part) old new out text last meant e = e
 silent Means (StoreFault call) old new out text last meant e = e
 silent Means Memory old new out text last meant e = e
 
@@ -141,7 +139,6 @@ last_ends Usage last = absurd last
 last_ends (Refused refusal) last = absurd last
 last_ends (Numeric step fault) last = tt
 last_ends (Lists step count) last = tt
-last_ends (NotBuilt part) last = absurd last
 last_ends (StoreFault call) last = absurd last
 last_ends Memory last = absurd last
 

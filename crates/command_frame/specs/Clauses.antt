@@ -5,7 +5,7 @@ use Rattle.command_frame.specs.Standing.{Standing, IfTold, IsFrontOf}
 use Rattle.command_frame.specs.Status.{IsRefusal, IsLast, count_of}
 use Rattle.command_frame.specs.Verdict.{Verdict, lacks, stops, writes, speaks}
 use Rattle.command_frame.specs.declared.status.Status.{Status}
-use Rattle.command_frame.specs.declared.status.Status.TheVariants.{Done, Usage, Refused, Numeric, Lists, NotBuilt}
+use Rattle.command_frame.specs.declared.status.Status.TheVariants.{Done, Usage, Refused, Numeric, Lists}
 use Rattle.command_frame.specs.declared.status.Status.TheVariants.{StoreFault, Memory}
 use Rattle.command_frame.specs.declared.status.StoreCall.{StoreCall}
 use Rattle.command_frame.specs.declared.status.StoreCall.TheVariants.{Open, Read, Create, Write, Say}
@@ -22,7 +22,6 @@ KeepsContents Usage = Unit {0}
 KeepsContents (Refused refusal) = Unit {0}
 KeepsContents (Numeric step fault) = ⊥
 KeepsContents (Lists step count) = ⊥
-KeepsContents (NotBuilt part) = Unit {0}
 KeepsContents (StoreFault Open) = Unit {0}
 KeepsContents (StoreFault Read) = Unit {0}
 KeepsContents (StoreFault Create) = Unit {0}
@@ -37,7 +36,6 @@ IsJudgement Usage = Unit {0}
 IsJudgement (Refused refusal) = Unit {0}
 IsJudgement (Numeric step fault) = Unit {0}
 IsJudgement (Lists step count) = Unit {0}
-IsJudgement (NotBuilt part) = Unit {0}
 IsJudgement (StoreFault call) = ⊥
 IsJudgement Memory = ⊥
 
@@ -48,7 +46,6 @@ HasLine Usage = Unit {0}
 HasLine (Refused refusal) = Unit {0}
 HasLine (Numeric step fault) = Unit {0}
 HasLine (Lists step count) = Unit {0}
-HasLine (NotBuilt part) = Unit {0}
 HasLine (StoreFault Open) = Unit {0}
 HasLine (StoreFault Read) = Unit {0}
 HasLine (StoreFault Create) = Unit {0}

@@ -6,7 +6,7 @@ use Rattle.command_frame.specs.Standing.{Standing, IfTold, IsWritten}
 use Rattle.command_frame.specs.Status.{failed_call, counts_after}
 use Rattle.command_frame.specs.Verdict.{Verdict, lacks, stops, writes, speaks}
 use Rattle.command_frame.specs.declared.status.Status.{Status}
-use Rattle.command_frame.specs.declared.status.Status.TheVariants.{Done, Usage, Refused, Numeric, Lists, NotBuilt}
+use Rattle.command_frame.specs.declared.status.Status.TheVariants.{Done, Usage, Refused, Numeric, Lists}
 use Rattle.command_frame.specs.declared.status.Status.TheVariants.{StoreFault, Memory}
 use Rattle.command_frame.specs.declared.status.StoreCall.{StoreCall}
 use Rattle.command_frame.specs.declared.status.StoreCall.TheVariants.{Open, Read, Create, Write, Say}
@@ -54,7 +54,6 @@ LeavesFiles Means (Numeric step fault) old new =
     HasWritten Means (Numeric step fault) old new ⊎ IsStopped Means (Numeric step fault) old new
 LeavesFiles Means (Lists step count) old new =
     HasWritten Means (Lists step count) old new ⊎ IsStopped Means (Lists step count) old new
-LeavesFiles Means (NotBuilt part) old new = IsStopped Means (NotBuilt part) old new
 LeavesFiles Means (StoreFault Open) old new = new ≡ old
 LeavesFiles Means (StoreFault Read) old new = new ≡ old
 LeavesFiles Means (StoreFault Create) old new = IsToWrite Means × (new ≡ old)
@@ -81,7 +80,6 @@ LeavesSaid Means Usage old new = new ≡ old
 LeavesSaid Means (Refused refusal) old new = new ≡ old
 LeavesSaid Means (Numeric step fault) old new = new ≡ old
 LeavesSaid Means (Lists step count) old new = new ≡ old
-LeavesSaid Means (NotBuilt part) old new = new ≡ old
 LeavesSaid Means (StoreFault call) old new = new ≡ old
 LeavesSaid Means Memory old new = new ≡ old
 

@@ -3,7 +3,7 @@ use Rattle.std.specs.Prelude.{ℕ, ◌≡◌, List, Option, Some, None, IsTrue, 
 use Rattle.command_frame.specs.Standing.{Standing, IfTold, IsKept}
 use Rattle.command_frame.specs.Status.{EndsReading, counts_after, failed_call}
 use Rattle.command_frame.specs.declared.status.Status.{Status}
-use Rattle.command_frame.specs.declared.status.Status.TheVariants.{Done, Usage, Refused, Numeric, Lists, NotBuilt}
+use Rattle.command_frame.specs.declared.status.Status.TheVariants.{Done, Usage, Refused, Numeric, Lists}
 use Rattle.command_frame.specs.declared.status.Status.TheVariants.{StoreFault, Memory}
 use Rattle.command_frame.specs.declared.status.StoreCall.{StoreCall}
 use Rattle.command_frame.specs.declared.status.StoreCall.TheVariants.{Open, Read, Create, Write, Say}
@@ -21,7 +21,6 @@ Answers Means view there (Err Usage) = ⊥
 Answers Means view there (Err (Refused refusal)) = IsSomeAnd there (λ text. Means text (Err refusal))
 Answers Means view there (Err (Numeric step fault)) = ⊥
 Answers Means view there (Err (Lists step count)) = ⊥
-Answers Means view there (Err (NotBuilt part)) = ⊥
 Answers Means view there (Err (StoreFault Open)) = Unit {0}
 Answers Means view there (Err (StoreFault Read)) = Unit {0}
 Answers Means view there (Err (StoreFault Create)) = ⊥
@@ -38,7 +37,6 @@ Interprets Means view text (Err Usage) = ⊥
 Interprets Means view text (Err (Refused refusal)) = Means text (Err refusal)
 Interprets Means view text (Err (Numeric step fault)) = ⊥
 Interprets Means view text (Err (Lists step count)) = ⊥
-Interprets Means view text (Err (NotBuilt part)) = ⊥
 Interprets Means view text (Err (StoreFault call)) = ⊥
 Interprets Means view text (Err Memory) = Unit {0}
 

@@ -2,7 +2,7 @@
 use Rattle.std.specs.Prelude.{ℕ, ◌-◌, ◌^◌, ◌≤◌, Option, Some, None}
 use Rattle.pf_io.specs.Store.{Faults, one_more_open, one_more_read, one_more_create, one_more_write, one_more_say}
 use Rattle.command_frame.specs.declared.status.Status.{Status}
-use Rattle.command_frame.specs.declared.status.Status.TheVariants.{Done, Usage, Refused, Numeric, Lists, NotBuilt}
+use Rattle.command_frame.specs.declared.status.Status.TheVariants.{Done, Usage, Refused, Numeric, Lists}
 use Rattle.command_frame.specs.declared.status.Status.TheVariants.{StoreFault, Memory}
 use Rattle.command_frame.specs.declared.status.StoreCall.{StoreCall}
 use Rattle.command_frame.specs.declared.status.StoreCall.TheVariants.{Open, Read, Create, Write, Say}
@@ -14,7 +14,6 @@ failed_call Usage = None
 failed_call (Refused refusal) = None
 failed_call (Numeric step fault) = None
 failed_call (Lists step count) = None
-failed_call (NotBuilt part) = None
 failed_call (StoreFault call) = Some call
 failed_call Memory = None
 
@@ -53,7 +52,6 @@ IsRefusal Usage = Unit {0}
 IsRefusal (Refused refusal) = Unit {0}
 IsRefusal (Numeric step fault) = ⊥
 IsRefusal (Lists step count) = ⊥
-IsRefusal (NotBuilt part) = Unit {0}
 IsRefusal (StoreFault call) = ⊥
 IsRefusal Memory = ⊥
 
@@ -64,7 +62,6 @@ IsLast Usage = ⊥
 IsLast (Refused refusal) = ⊥
 IsLast (Numeric step fault) = Unit {0}
 IsLast (Lists step count) = Unit {0}
-IsLast (NotBuilt part) = ⊥
 IsLast (StoreFault call) = ⊥
 IsLast Memory = ⊥
 
@@ -75,7 +72,6 @@ EndsReading Usage = ⊥
 EndsReading (Refused refusal) = Unit {0}
 EndsReading (Numeric step fault) = ⊥
 EndsReading (Lists step count) = ⊥
-EndsReading (NotBuilt part) = ⊥
 EndsReading (StoreFault Open) = Unit {0}
 EndsReading (StoreFault Read) = Unit {0}
 EndsReading (StoreFault Create) = ⊥
@@ -90,7 +86,6 @@ EndsWriting Usage = ⊥
 EndsWriting (Refused refusal) = ⊥
 EndsWriting (Numeric step fault) = Unit {0}
 EndsWriting (Lists step count) = Unit {0}
-EndsWriting (NotBuilt part) = ⊥
 EndsWriting (StoreFault Open) = ⊥
 EndsWriting (StoreFault Read) = ⊥
 EndsWriting (StoreFault Create) = Unit {0}
@@ -105,7 +100,6 @@ EndsSpeaking Usage = ⊥
 EndsSpeaking (Refused refusal) = ⊥
 EndsSpeaking (Numeric step fault) = ⊥
 EndsSpeaking (Lists step count) = ⊥
-EndsSpeaking (NotBuilt part) = ⊥
 EndsSpeaking (StoreFault Open) = ⊥
 EndsSpeaking (StoreFault Read) = ⊥
 EndsSpeaking (StoreFault Create) = ⊥

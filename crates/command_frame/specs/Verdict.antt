@@ -37,10 +37,5 @@ abbrev pub Refusing : {A E R : Type 0} → (E → R) → (List ℕ → Result A 
 Refusing why Means text (Ok value) = Means text (Ok value)
 Refusing {E = E} why Means text (Err refusal) = (fault : E) × Means text (Err fault) × (refusal ≡ why fault)
 
--- the command ends so, unless nothing ends it here
-abbrev pub Unless : {R F : Type 0} → Option (Status R F) → (Verdict R F → Type 0) → Verdict R F → Type 0
-Unless None next verdict = next verdict
-Unless (Some status) next verdict = verdict ≡ stops status
-
 abbrev pub AtMostOne : {A : Type 0} → (A → Type 0) → Type 0
 AtMostOne {A} Fits = (a b : A) → Fits a → Fits b → a ≡ b

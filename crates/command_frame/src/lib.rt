@@ -10,4 +10,4 @@ mod status;
 pub use input::load;
 pub use output::Next;
 pub use speak::say_answer;
-pub use status::{Part, Status, StoreCall};
+pub use status::{Status, StoreCall};

@@ -8,13 +8,6 @@ pub enum StoreCall {
     Say,
 }
 
-/// A part of the program that isn't built yet.
-#[derive(Clone, Copy, Debug, PartialEq, Eq, Hash)]
-pub enum Part {
-    /// The command `bench`.
-    Bench,
-}
-
 /// How a command ended. `R` is why an input is refused, `F` is how a step of a run fails.
 #[derive(Clone, Copy, Debug, PartialEq, Eq, Hash)]
 pub enum Status<R, F> {
@@ -27,8 +20,6 @@ pub enum Status<R, F> {
     Numeric(u32, F),
     /// The lists of this step have more entries than the limit, namely so many.
     Lists(u32, u64),
-    /// This part isn't built yet; nothing was written.
-    NotBuilt(Part),
     /// This method of the store failed.
     StoreFault(StoreCall),
     /// Memory ran out.

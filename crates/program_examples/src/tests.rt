@@ -1,3 +1,4 @@
+mod bench;
 mod failing;
 mod faults;
 mod forces;

@@ -1,3 +1,4 @@
+pub mod BenchLemmas
 pub mod DumpLemmas
 pub mod InputLemmas
 pub mod KernelLemmas

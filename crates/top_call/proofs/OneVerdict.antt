@@ -16,12 +16,16 @@ use Rattle.pf_io.specs.Store.{Files}
 use Rattle.command_line.specs.declared.command.Command.{Command}
 use Rattle.command_line.specs.declared.command.Command.TheVariants as commands
 use Rattle.command_line.specs.Words.{command_of}
+use Rattle.bench_input.specs.Kernel.{IsBenchKernel}
+use Rattle.bench_input.specs.Setup.{bench_setup}
 use Rattle.command_frame.specs.Verdict.{AtMostOne}
 use Rattle.command_frame.proofs.VerdictLaws.{one_after, one_within, one_refusing}
 use Rattle.top_call.specs.declared.status.Refusal.{Refusal}
 use Rattle.top_call.specs.declared.status.Refusal.TheVariants as refusals
+use Rattle.top_call.specs.Bench.{bench_verdict}
 use Rattle.top_call.specs.Inputs.{DeckMeans, KernelMeans, ParticlesMean, DeckFileMeans, KernelFileMeans, ParticleFileMeans}
-use Rattle.top_call.specs.Run.{setup_of, run_verdict, WithKernel, WithDeck, RunMeans, CommandMeans, WordsMean}
+use Rattle.top_call.specs.Run.{setup_of, run_verdict, WithKernel, WithDeck, RunMeans}
+use Rattle.top_call.specs.Words.{CommandMeans, WordsMean}
 
 -- a text has at most one reading as tokens
 abbrev pub OneTokens : Type 0
@@ -33,6 +37,7 @@ pub record InputsAreOne : Type 0 where
   pub types : OneTyping
   pub type_faults : OneTypeFault
   pub decks : NoTextHasTwoReadings
+  pub bench_kernels : (a b : Kernel) → IsBenchKernel a → IsBenchKernel b → a ≡ b
 
 module _ (one : InputsAreOne) (text : List ℕ) where
   same_tokens : (s t : List Token) → tokens.Spells text s → tokens.Spells text t → s ≡ t
@@ -105,7 +110,8 @@ module _ (one : InputsAreOne) (files : Files) where
   one_command : (command : Option (Command (List ℕ))) → AtMostOne (CommandMeans command files)
   one_command None = λ a b p q. p ∙ sym q
   one_command (Some (commands.Run name workers)) = one_run name
-  one_command (Some (commands.Bench count seed workers)) = λ a b p q. p ∙ sym q
+  one_command (Some (commands.Bench count seed workers)) =
+      λ a b p q. p.2 ∙ ap (λ (kernel : Kernel). bench_verdict count seed (bench_setup count seed kernel)) (one.bench_kernels p.0 q.0 p.1 q.1) ∙ sym q.2
 
 pub one_verdict : InputsAreOne → (words : List (List ℕ)) (files : Files) → AtMostOne (WordsMean words files)
 one_verdict one words files = one_command one files (command_of words)

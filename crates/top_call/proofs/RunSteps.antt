@@ -9,7 +9,7 @@ use Rattle.command_frame.specs.Standing.{Standing}
 use Rattle.command_frame.specs.Status.{EndsReading, EndsWriting}
 use Rattle.command_frame.specs.Reading.{ReadsInput}
 use Rattle.command_frame.specs.Verdict.{After, Verdict, writes}
-use Rattle.command_frame.specs.declared.status.Status.TheVariants.{Done, Usage, Refused, Numeric, Lists, NotBuilt, StoreFault, Memory}
+use Rattle.command_frame.specs.declared.status.Status.TheVariants.{Done, Usage, Refused, Numeric, Lists, StoreFault, Memory}
 use Rattle.command_frame.specs.declared.status.StoreCall.TheVariants.{Open, Read, Create, Write, Say}
 use Rattle.command_frame.proofs.StepLaws.{carried_as_more, stops_after}
 use Rattle.top_call.specs.declared.status.Refusal.{Refusal}
@@ -31,7 +31,6 @@ writing_ends_run Usage h = absurd h
 writing_ends_run (Refused refusal) h = absurd h
 writing_ends_run (Numeric step fault) h = tt
 writing_ends_run (Lists step count) h = tt
-writing_ends_run (NotBuilt part) h = absurd h
 writing_ends_run (StoreFault Open) h = absurd h
 writing_ends_run (StoreFault Read) h = absurd h
 writing_ends_run (StoreFault Create) h = tt

@@ -1,5 +1,5 @@
--- What the words of the program mean on the contents at entry.
-use Rattle.std.specs.Prelude.{ℕ, suc, ◌≡◌, ◌≤◌, ◌⊎◌, List, Option, Some, None}
+-- What `run DECK` means on the contents at entry.
+use Rattle.std.specs.Prelude.{ℕ, suc, ◌≡◌, ◌≤◌, List, Option, Some, None}
 use Rattle.pf_io.specs.Store.{Files}
 use Rattle.pf_model.specs.Particle.{Particle}
 use Rattle.kern_tree.specs.declared.kernel.Kernel.{Kernel}
@@ -9,13 +9,9 @@ use Rattle.run_model.specs.Setup.{Setup}
 use Rattle.run_model.specs.Run.{Stop, first_fault, end_of}
 use Rattle.run_model.specs.Run as stop
 use Rattle.run_model.specs.Text.{texts}
-use Rattle.command_line.specs.declared.command.Command.{Command}
-use Rattle.command_line.specs.declared.command.Command.TheVariants as commands
-use Rattle.command_line.specs.Words.{command_of}
-use Rattle.command_frame.specs.Verdict.{Verdict, stops, writes, After, AtMostOne}
-use Rattle.command_frame.specs.declared.status.Part.TheVariants as parts
+use Rattle.command_frame.specs.Verdict.{Verdict, writes, After}
 use Rattle.command_frame.specs.declared.status.Status.{Status}
-use Rattle.command_frame.specs.declared.status.Status.TheVariants.{Done, Usage, Refused, Numeric, Lists, NotBuilt}
+use Rattle.command_frame.specs.declared.status.Status.TheVariants.{Done, Usage, Refused, Numeric, Lists}
 use Rattle.command_frame.specs.declared.status.Status.TheVariants.{StoreFault, Memory}
 use Rattle.command_frame.specs.declared.status.StoreCall.TheVariants.{Open, Read, Create, Write, Say}
 use Rattle.top_call.specs.declared.status.Refusal.{Refusal}
@@ -82,16 +78,6 @@ pub record AreWorkers (count : ℕ) : Type 0 where
   pub some : 1 ≤ count
   pub most : count ≤ 64
 
--- each command
-abbrev pub CommandMeans : Option (Command (List ℕ)) → Files → Verdict Refusal Fault → Type 0
-CommandMeans None files verdict = verdict ≡ stops Usage
-CommandMeans (Some (commands.Run name workers)) files verdict = RunMeans name files verdict
-CommandMeans (Some (commands.Bench count seed workers)) files verdict = verdict ≡ stops (NotBuilt parts.Bench)
-
--- the words
-abbrev pub WordsMean : List (List ℕ) → Files → Verdict Refusal Fault → Type 0
-WordsMean words files verdict = CommandMeans (command_of words) files verdict
-
 -- the statuses that a run may end with: want of memory is a status of its own, and no refusal
 abbrev pub EndsRun : Ending → Type 0
 EndsRun Done = Unit {0}
@@ -99,22 +85,9 @@ EndsRun Usage = ⊥
 EndsRun (Refused refusal) = IsNoMemory refusal
 EndsRun (Numeric step fault) = Unit {0}
 EndsRun (Lists step count) = Unit {0}
-EndsRun (NotBuilt part) = ⊥
 EndsRun (StoreFault Open) = Unit {0}
 EndsRun (StoreFault Read) = Unit {0}
 EndsRun (StoreFault Create) = Unit {0}
 EndsRun (StoreFault Write) = Unit {0}
 EndsRun (StoreFault Say) = ⊥
 EndsRun Memory = Unit {0}
-
-abbrev pub EndsCommand : Option (Command (List ℕ)) → Ending → Type 0
-EndsCommand None status = (status ≡ Usage) ⊎ (status ≡ Memory)
-EndsCommand (Some (commands.Run name workers)) status = EndsRun status
-EndsCommand (Some (commands.Bench count seed workers)) status = (status ≡ NotBuilt parts.Bench) ⊎ (status ≡ Memory)
-
-abbrev pub EndsWords : List (List ℕ) → Ending → Type 0
-EndsWords words status = EndsCommand (command_of words) status
-
--- words have at most one verdict
-abbrev pub OneVerdict : Type 0
-OneVerdict = (words : List (List ℕ)) (files : Files) → AtMostOne (WordsMean words files)

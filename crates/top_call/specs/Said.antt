@@ -10,9 +10,7 @@ use Rattle.deck_file.specs.FaultText.{deck_fault_text}
 use Rattle.particle_file.specs.FaultText as particles
 use Rattle.run_model.specs.declared.fault.What.{What}
 use Rattle.run_model.specs.declared.fault.What.TheVariants as what
-use Rattle.command_frame.specs.declared.status.Part.{Part}
-use Rattle.command_frame.specs.declared.status.Part.TheVariants as parts
-use Rattle.command_frame.specs.declared.status.Status.TheVariants.{Done, Usage, Refused, Numeric, Lists, NotBuilt}
+use Rattle.command_frame.specs.declared.status.Status.TheVariants.{Done, Usage, Refused, Numeric, Lists}
 use Rattle.command_frame.specs.declared.status.Status.TheVariants.{StoreFault, Memory}
 use Rattle.command_frame.specs.declared.status.StoreCall.{StoreCall}
 use Rattle.command_frame.specs.declared.status.StoreCall.TheVariants.{Open, Read, Create, Write, Say}
@@ -53,9 +51,6 @@ numeric_line step id fault =
 abbrev pub lists_line : ℕ → ℕ → List ℕ
 lists_line step count = (codes "fdps: step " ++ decimal step ++ codes ": Lists ") ++ (decimal count ++ codes "\n")
 
-abbrev pub not_built_line : Part → List ℕ
-not_built_line parts.Bench = codes "fdps: not built: bench\n"
-
 abbrev pub store_line : StoreCall → List ℕ
 store_line Open = codes "fdps: store: open failed\n"
 store_line Read = codes "fdps: store: read failed\n"
@@ -70,6 +65,5 @@ line_of Usage = codes "fdps: usage: fdps run DECK [--workers W] or fdps bench N 
 line_of (Refused refusal) = refusal_line refusal
 line_of (Numeric step fault) = numeric_line step fault.id fault.what
 line_of (Lists step count) = lists_line step count
-line_of (NotBuilt part) = not_built_line part
 line_of (StoreFault call) = store_line call
 line_of Memory = codes "fdps: out of memory\n"

@@ -1,7 +1,7 @@
 -- The exit status of the program.
 use Rattle.std.specs.Prelude.{ℕ}
 use Rattle.command_frame.specs.declared.status.Status.{Status}
-use Rattle.command_frame.specs.declared.status.Status.TheVariants.{Done, Usage, Refused, Numeric, Lists, NotBuilt}
+use Rattle.command_frame.specs.declared.status.Status.TheVariants.{Done, Usage, Refused, Numeric, Lists}
 use Rattle.command_frame.specs.declared.status.Status.TheVariants.{StoreFault, Memory}
 
 abbrev pub code_of : {R F : Type 0} → Status R F → ℕ
@@ -12,4 +12,3 @@ code_of (Numeric step fault) = 4
 code_of (Lists step count) = 5
 code_of (StoreFault call) = 6
 code_of Memory = 7
-code_of (NotBuilt part) = 8

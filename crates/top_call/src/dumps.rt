@@ -77,10 +77,10 @@ impl<U: Run> Dumps<U> {
             return Next::End(Status::Done);
         }
         match stepped(workers, alloc, world) {
-            Ok((world, text)) => {
+            Ok((world, dump)) => {
                 self.world = Some(world);
                 self.next += 1;
-                Next::Piece(text)
+                Next::Piece(dump.text)
             }
             Err(StepFault::Numeric(fault)) => Next::End(Status::Numeric(self.next, fault)),
             Err(StepFault::Lists(count)) => Next::End(Status::Lists(self.next, count)),

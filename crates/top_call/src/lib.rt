@@ -2,6 +2,7 @@
 // decks, kernels and particles, on the steps of a run and their texts, and on the frame of commands.
 #![tactic(auto)]
 
+mod bench;
 mod dumps;
 mod inputs;
 mod run;

@@ -1,9 +1,9 @@
 ghost use Rattle.std.specs.Prelude.{◌≡◌, IfOk, string_bytes};
-ghost use Rattle.top_call.specs.Said.{axis_name, kind_name, line_of, lists_line, not_built_line};
+ghost use Rattle.top_call.specs.Said.{axis_name, kind_name, line_of, lists_line};
 ghost use Rattle.top_call.specs.Said.{numeric_line, refusal_line, store_line, what_line};
 
 use crate::status::{Refusal, Status};
-use command_frame::{Part, StoreCall};
+use command_frame::StoreCall;
 use kern_meaning::PairKind;
 use pf_geom::Axis;
 use pf_num::OutOfMemory;
@@ -29,7 +29,6 @@ fn line(alloc: Global, s: &Status) -> Result<String, AllocError>
         Status::Refused(refusal) => refusal_line(alloc, refusal),
         Status::Numeric(step, fault) => numeric_line(alloc, *step, fault.id, fault.what),
         Status::Lists(step, count) => lists_line(alloc, *step, *count),
-        Status::NotBuilt(part) => String::from_str(alloc, not_built_line(*part)),
         Status::StoreFault(call) => String::from_str(alloc, store_line(*call)),
         Status::Memory => String::from_str(alloc, "fdps: out of memory\n"),
     }
@@ -105,14 +104,6 @@ fn axis_name(axis: Axis) -> &'static str
         Axis::X => "x",
         Axis::Y => "y",
         Axis::Z => "z",
-    }
-}
-
-fn not_built_line(part: Part) -> &'static str
-    ensures { result.now ≡ not_built_line part }
-{
-    match part {
-        Part::Bench => "fdps: not built: bench\n",
     }
 }
 

@@ -34,6 +34,5 @@ pub fn code(s: &Status) -> u8
         Status::Lists(_, _) => 5,
         Status::StoreFault(_) => 6,
         Status::Memory => 7,
-        Status::NotBuilt(_) => 8,
     }
 }

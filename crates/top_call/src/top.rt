@@ -5,14 +5,14 @@ ghost use Rattle.command_frame.specs.Effects.{CarriesOut, SaysLine};
 ghost use Rattle.command_frame.specs.Standing.{standing};
 ghost use Rattle.command_frame.specs.Status.{HasRoom};
 ghost use Rattle.command_frame.specs.declared.status.Status.TheVariants.{Memory, Usage};
-ghost use Rattle.top_call.specs.Run.{EndsWords, OneVerdict, WordsMean};
 ghost use Rattle.top_call.specs.Said.{line_of};
+ghost use Rattle.top_call.specs.Words.{EndsWords, OneVerdict, WordsMean};
 
+use crate::bench::bench;
 use crate::run::run;
 use crate::said::said_line;
 use crate::status::Status;
 use crate::workers::Workers;
-use command_frame::Part;
 use command_line::Command;
 use pf_io::{Gate, Store, StoreErr};
 use pf_num::OutOfMemory;
@@ -61,7 +61,10 @@ fn carry_out<R: Threads + Wait + Sync, W: AsStr, S: Store, G: Gate>(
             let workers = Workers { rt, count, gate };
             run(&workers, alloc, store, deck)
         }
-        Ok(Some(Command::Bench(_, _, _))) => Status::NotBuilt(Part::Bench),
+        Ok(Some(Command::Bench(particles, seed, count))) => {
+            let workers = Workers { rt, count, gate };
+            bench(&workers, alloc, store, particles, seed)
+        }
         Ok(None) => Status::Usage,
         Err(OutOfMemory) => Status::Memory,
     }
@@ -94,4 +97,5 @@ pub fn one_verdict()
     kern_tree::one_answer();
     kern_types::one_typing();
     deck_file::one_reading();
+    bench_input::bench_kernels_are_one();
 }

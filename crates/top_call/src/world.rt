@@ -14,6 +14,7 @@ use particle_file::{Particles, bodies};
 use pf_io::Gate;
 use pf_num::OutOfMemory;
 use rank_step::{StepFault, World, WorldSetup};
+use run_model::{RankLine, Sequence};
 use std::alloc::Global;
 use std::sync::Wait;
 use std::thread::Threads;
@@ -40,19 +41,30 @@ pub(crate) fn world_of(
     World::open(alloc, setup, kernel)
 }
 
-/// The world after its next step, with the text of that step.
+/// What a step tells.
+#[derive(Drop)]
+pub(crate) struct Dump {
+    pub(crate) text: Vec<u8>,
+    /// The counts of the ranks in it.
+    pub(crate) ranks: Sequence<RankLine>,
+}
+
+/// The world after its next step, with what that step tells.
 pub(crate) fn stepped<R: Threads + Wait + Sync, G: Gate>(
     workers: &Workers<'_, R, G>,
     alloc: Global,
     world: World,
-) -> Result<(World, Vec<u8>), StepFault>
+) -> Result<(World, Dump), StepFault>
     requires few { world.due ≤ MOST_STEPS }
     requires workers { AreWorkers workers.now.count }
-    ensures { (run : Setup) → StandsFor world run → TakesStep (λ v. v.items) run world.due result }
+    ensures { (run : Setup) → StandsFor world run → TakesStep run world.due result }
 {
     let (world, report) = world.step(workers.rt, alloc, workers.count, workers.gate)?;
     match write_step(alloc, &report.text) {
-        Ok(text) => Ok((world, text)),
+        Ok(text) => {
+            let ranks = report.text.ranks;
+            Ok((world, Dump { text, ranks }))
+        }
         Err(OutOfMemory) => Err(StepFault::Memory),
     }
 }

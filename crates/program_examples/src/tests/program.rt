@@ -85,7 +85,8 @@ pub(crate) fn run_by(
     Ok(Ran { status, store })
 }
 
-fn text(bytes: &[u8]) -> Result<&str, Fail> {
+/// A text that was written or said.
+pub(crate) fn text(bytes: &[u8]) -> Result<&str, Fail> {
     std::str::from_utf8(bytes).map_err(|_| Fail::from("no text"))
 }
 

@@ -15,7 +15,7 @@ const INPUTS: Inputs<'static> = Inputs {
 #[test]
 fn other_words_are_answered_with_the_usage(rt: HostRuntime) -> Result<(), Fail> {
     let alloc = rt.alloc();
-    let commands: [&[&str]; 9] = [
+    let commands: [&[&str]; 12] = [
         &[],
         &["run"],
         &["walk", "d"],
@@ -24,6 +24,9 @@ fn other_words_are_answered_with_the_usage(rt: HostRuntime) -> Result<(), Fail> 
         &["run", "d", "--workers", "65"],
         &["run", "d", "--workers", "+4"],
         &["run", "--help"],
+        &["bench", "5"],
+        &["bench", "65537", "7"],
+        &["bench", "5", "x"],
         &["convert", "p", "q"],
     ];
     for words in commands {
@@ -59,15 +62,5 @@ fn any_number_of_workers_gives_the_same_dumps(rt: HostRuntime) -> Result<(), Fai
         assert_eq!(rt; store.contents("o"), Some(dump), "{words:?}");
         assert!(rt; store.said().is_empty());
     }
-    Ok(())
-}
-
-#[test]
-fn the_benchmark_is_not_built_yet(rt: HostRuntime) -> Result<(), Fail> {
-    let alloc = rt.alloc();
-    let mut store = store_of(alloc, INPUTS, &[], WHOLE)?;
-    let status = fdps(&rt, alloc, &["bench", "5000", "7"], &mut store, &Open);
-    assert_eq!(rt; code(&status), 8);
-    assert_eq!(rt; store.said(), b"fdps: not built: bench\n".as_slice());
     Ok(())
 }

@@ -1,7 +1,7 @@
 use Rattle.std.proofs.Common.{map}
 use Rattle.command_frame.proofs.Concluding.{concluded}
-use Rattle.top_call.specs.Run.{EndsWords, WordsMean}
 use Rattle.top_call.specs.Said.{line_of}
+use Rattle.top_call.specs.Words.{EndsWords, WordsMean}
 use Rattle.top_call.proofs.top.fdps.Goals as goal
 
 pub returns-clause-concludes : goal.returns-clause-concludes

@@ -8,4 +8,5 @@ returns c = one_verdict record {
   types = c.one_typing.ensures.not_both;
   type_faults = c.one_typing.ensures.one_fault;
   decks = c.one_reading-2.ensures.one;
+  bench_kernels = c.bench_kernels_are_one.ensures;
 }

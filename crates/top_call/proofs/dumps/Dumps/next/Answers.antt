@@ -38,7 +38,7 @@ returns-in-Ok g c =
     let inside : c.self.inside.next ≤ c.self.inside.steps = omega arith in
     let now = coming_of run c.self.inside.world c.in-Some.world c.self.inside.next c.args.self.now there c.self.view_is in
     let taken = c.in-Ok.ensures run due.stands in
-    (now.0 ∙ next_text run _ c.self.inside.next c.self.inside.steps (c.states_stand_before_the_end.ensures run) due inside c.in-Ok.text.items taken.0 taken.1, now.1)
+    (now.0 ∙ next_text run _ c.self.inside.next c.self.inside.steps (c.states_stand_before_the_end.ensures run) due inside c.in-Ok.dump.text.items taken.0 taken.1, now.1)
 
 pub returns-in-Err-Numeric : goal.returns-in-Err-Numeric
 returns-in-Err-Numeric g c =
