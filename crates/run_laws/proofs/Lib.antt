@@ -1,6 +1,5 @@
 mod GroupsLemmas
 mod PullLemmas
-mod OrderLemmas
 mod BuildLemmas
 mod ForceLemmas
 mod TextLemmas

@@ -8,8 +8,9 @@ ghost use Rattle.run_laws.specs.ThinText.{ThinTextsAreThinDumps};
 ghost use Rattle.run_laws.specs.ThinLaws.{ListsWithoutCellsAreParticles, FewParticlesAreOneGroup};
 
 use model_laws::{
-    group_levels_are_least, lists_of_near_are_particles, nothing_passes_at_zero,
-    orders_by_id_have_distinct_ids, orders_by_id_keep_particles, particles_of_one_id_are_one,
+    ascending_is_by_id, group_levels_are_least, lists_of_near_are_particles,
+    nothing_passes_at_zero, orders_by_id_ascend, orders_by_id_have_distinct_ids,
+    orders_by_id_keep_particles, particles_of_one_id_are_one,
 };
 use pf_geom::positions_have_cells;
 use run_model::lone_ranks_build_so;
@@ -38,7 +39,10 @@ pub fn pull_kernels_give_distances()
 /// The order by ids of what stands in this order already is itself.
 pub fn orders_by_id_stay()
     ensures { OrdersByIdStay }
-{}
+{
+    ascending_is_by_id();
+    orders_by_id_ascend();
+}
 
 /// At the build of one rank where theta is 0 and the particles are no more than the limit of a group, every list is all
 /// particles, and the rank has these counts.
