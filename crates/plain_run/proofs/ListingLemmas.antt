@@ -1,10 +1,10 @@
 -- The lists of a build: those of groups, and essential trees.
-use Rattle.std.proofs.Common.{◌≡◌, ℕ, ◌+◌, ◌<◌, ◌≤◌, ◌*◌, ◌^◌, Bool, true, false, List, [], ◌∷◌, ◌++◌, length, map, sum_by, nat_eq, refl, sym, ap, ◌∙◌, arith}
+use Rattle.std.proofs.Common.{◌≡◌, ℕ, ◌+◌, ◌<◌, ◌≤◌, ◌*◌, ◌^◌, Bool, true, false, List, [], ◌∷◌, ◌++◌, length, sum_by, nat_eq, refl, sym, ap, ◌∙◌, arith}
 use Rattle.std.specs.Prelude.{if◌then◌else◌}
 use Rattle.std.specs.List.{flat_map, range_with_len}
-use Rattle.std.proofs.lemmas.Bool.{cond_both}
 use Rattle.std.proofs.lemmas.List.{length-map, length-append}
 use Rattle.std.proofs.lemmas.List.Concat.{flat_map-append}
+use Rattle.std.proofs.lemmas.List.Folds.{flat_map-map}
 use Rattle.std.proofs.lemmas.List.Sums.{count_by-le-length, length-filter, sum_by-cons}
 use Rattle.pf_geom.specs.Position.{Position}
 use Rattle.pf_geom.specs.Bounds.{Bounds}
@@ -16,11 +16,11 @@ use Rattle.pf_model.specs.Division.{Division, IsDivision, rank_count}
 use Rattle.pf_model.specs.Domains.{owner, particles_of, domain_box}
 use Rattle.pf_model.specs.Interaction.{list_of}
 use Rattle.model_laws.specs.ListLaws.{ListsAreShort}
-use Rattle.order_laws.specs.Order.{placed, in_order_once}
-use Rattle.pf_model.specs.Group.{particles_in, group_cell, group_cells, box_of, has_lower_corner}
+use Rattle.pf_model.specs.Group.{particles_in, group_cell, group_cells, box_of}
+use Rattle.model_laws.specs.GroupLaws.{GroupsAreFew}
 use Rattle.pf_model.specs.Groups.{RankGroup, groups_of_rank, group_with, group_list}
 use Rattle.pf_model.specs.EssentialTree.{tree_for, essential_tree}
-use Rattle.plain_run.proofs.StepLemmas.{flat_map-map, length-flat_map-range, range_next}
+use Rattle.plain_run.proofs.StepLemmas.{length-flat_map-range, range_next}
 
 -- the box of a particle's group, from what code finds on the way
 pub group_box : (limit : ℕ) (g : Division) (built : List Particle) (i : Particle) (at : Position) (rank : ℕ) (own own' own'' : List Particle) (cell : Octant) (around : Bounds)
@@ -73,29 +73,6 @@ received_few law t g js dst division few =
     let ranks = division.few in
     omega arith
 
--- ---- how many groups there are
-
-length-placed : {X : Type 0} (before : X → X → Bool) (x : X) (ys : List X) → length (placed before x ys) ≤ 1 + length ys
-length-placed before x [] = omega arith
-length-placed before x (y ∷ ys) =
-    cond_both (before x y) _ _ (λ l. length l ≤ 1 + length (y ∷ ys)) (λ _. omega arith) (λ _.
-    cond_both (before y x) _ _ (λ l. length l ≤ 1 + length (y ∷ ys)) (λ _. (let rest = length-placed before x ys in omega arith)) (λ _. omega arith))
-
-pub length-in_order_once : {X : Type 0} (before : X → X → Bool) (xs : List X) → length (in_order_once before xs) ≤ length xs
-length-in_order_once before [] = omega arith
-length-in_order_once before (x ∷ xs) =
-    let here = length-placed before x (in_order_once before xs) in
-    let rest = length-in_order_once before xs in
-    omega arith
-
-pub cells_short : (limit : ℕ) (own : List Particle) → length (group_cells limit own) ≤ length own
-unfolding group_cells
-cells_short limit own =
-    let cells = map (λ (i : Particle). group_cell limit own i.at) own in
-    let a = length-in_order_once has_lower_corner cells in
-    let b = length-map own (λ (i : Particle). group_cell limit own i.at) in
-    omega arith
-
 -- ---- how many entries all lists have
 
 -- the entries of some groups are those of their lists joined
@@ -124,12 +101,12 @@ flat_few f m (x ∷ xs) each =
     omega arith
 
 -- how long the lists of a rank are together
-pub rank_entries_few : ListsAreShort → (t : Criterion) (limit : ℕ) (g : Division) (built : List Particle) (rank : ℕ) → length built ≤ 65536 → length (flat_map (group_list t built) (groups_of_rank limit g built rank)) ≤ 2 ^ 32
-rank_entries_few law t limit g built rank few =
+pub rank_entries_few : ListsAreShort → GroupsAreFew → (t : Criterion) (limit : ℕ) (g : Division) (built : List Particle) (rank : ℕ) → length built ≤ 65536 → length (flat_map (group_list t built) (groups_of_rank limit g built rank)) ≤ 2 ^ 32
+rank_entries_few law groups_few t limit g built rank few =
     let own = particles_of g built rank in
     let most = flat_few (group_list t built) 65536 (groups_of_rank limit g built rank) (λ group. let short = law t (box_of group.members) built in omega arith) in
     let group_in : Octant → RankGroup = λ c. record { rank = rank; members = particles_in c own } in
     let groups : length (groups_of_rank limit g built rank) ≡ length (group_cells limit own) = length-map (group_cells limit own) group_in in
-    let cells = cells_short limit own in
+    let cells = groups_few limit own in
     let short = own_short g built rank in
     omega arith

@@ -11,6 +11,7 @@ use Rattle.pf_geom.specs.declared.edge.Edge.{Edge}
 use Rattle.pf_model.specs.declared.entry.Entry.{Entry}
 use Rattle.order_laws.specs.Order.{first_some}
 use Rattle.pf_model.specs.Particle.{Particle}
+use Rattle.std.proofs.lemmas.Simd.{map-map}
 use Rattle.kern_tree.specs.declared.kernel.Kernel.{Kernel}
 use Rattle.kern_tree.specs.declared.kernel.Combine.{Combine}
 use Rattle.kern_tree.specs.declared.kernel.Kind.{Kind}
@@ -125,12 +126,8 @@ module _ (name : List ℕ) where
 
 -- ---- a FORCE variable from what it was given
 
-map-map : {X Y Z : Type 0} (f : X → Y) (g : Y → Z) (xs : List X) → map g (map f xs) ≡ map (λ x. g (f x)) xs
-map-map f g [] = refl
-map-map f g (x ∷ xs) = ap (λ l. g (f x) ∷ l) (map-map f g xs)
-
 along_one : (combine : Combine) (values : List Value) (axis : ℕ) → numbers_along combine (map components values) axis ≡ combined combine (map (λ value. slice_index_or (components value) axis (pos 0)) values)
-along_one combine values axis = ap (combined combine) (map-map components (λ v. slice_index_or v axis (pos 0)) values)
+along_one combine values axis = ap (combined combine) (map-map (λ v. slice_index_or v axis (pos 0)) components values)
 
 force_by : (kind : Kind) (combine : Combine) (values : List Value)
     → axis_numbers kind (numbers_along combine (map components values) 0) (numbers_along combine (map components values) 1) (numbers_along combine (map components values) 2)

@@ -1,74 +1,18 @@
 -- Cuts piece by piece: those of a slab, and those of a column.
-use Rattle.std.proofs.Common.{◌≡◌, ℕ, zero, suc, ◌+◌, ◌-◌, ◌*◌, ◌/◌, ◌%◌, ◌<◌, ◌≤◌, List, ◌++◌, length, take, drop, refl, sym, ◌∙◌, ap, arith}
+use Rattle.std.proofs.Common.{◌≡◌, ℕ, ◌+◌, ◌-◌, ◌*◌, ◌/◌, ◌%◌, ◌<◌, ◌≤◌, List, length, refl, sym, ◌∙◌, ap, arith}
 use Rattle.std.specs.Prelude.{nat_le}
-use Rattle.std.specs.List.{flat_map, range_with_len}
-use Rattle.std.proofs.Math.Nat.{mul_assoc, mul-le-mul_right}
-use Rattle.std.proofs.lemmas.List.{take_at, drop_at, drop-drop, take-take, drop-take, length-append}
 use Rattle.std.proofs.lemmas.List.FromFn.{length-map-range_with_len}
 use Rattle.std.proofs.lemmas.List.Sums.{count_by-le-length}
 use Rattle.pf_geom.specs.Position.{Position}
 use Rattle.pf_geom.specs.Bounds.{Bounds}
+use Rattle.model_laws.specs.DomainLaws.{CutsAreOfSlabsAndColumns}
 use Rattle.pf_model.specs.Particle.{Particle}
 use Rattle.pf_model.specs.Division.{Division, IsDivision}
 use Rattle.plain_run.specs.Boxes.{IsRankAt}
-use Rattle.pf_model.specs.Domains.{piece_at, cuts_in_slab, cuts_in_column, slab_of, slab_start, slab_end, owner_by, box_by, cut_before, cuts_of, x_cuts, in_slab, y_cuts, in_column, z_cuts, cuts_for, owner, domain_box}
+use Rattle.pf_model.specs.Domains.{cuts_in_slab, cuts_in_column, slab_of, slab_start, slab_end, owner_by, box_by, cut_before, cuts_of, x_cuts, in_slab, y_cuts, z_cuts, cuts_for, owner, domain_box}
 
 length-cuts_of : (along : Position → ℕ) (js : List Particle) (m : ℕ) → length (cuts_of along js m) ≡ m - 1
 length-cuts_of along js m = length-map-range_with_len (cut_before along js m) 1 (m - 1)
-
--- lists of one length joined, and how long they are
-length-joined : {X : Type 0} (f : ℕ → List X) (len : ℕ) → ((i : ℕ) → length (f i) ≡ len) → (start n : ℕ) → length (flat_map f (range_with_len start n)) ≡ n * len
-length-joined f len each start zero = omega arith
-length-joined f len each start (suc n) =
-    let here = each start in
-    let rest = length-joined f len each (start + 1) n in
-    let both = length-append (f start) (flat_map f (range_with_len (start + 1) n)) in
-    omega arith
-
--- each is a piece
-piece-joined : (f : ℕ → List ℕ) (len : ℕ) → ((i : ℕ) → length (f i) ≡ len) → (start n k : ℕ) → k < n → piece_at len (flat_map f (range_with_len start n)) k ≡ f (start + k)
-piece-joined f len each start zero k within = absurd (omega arith)
-piece-joined f len each start (suc n) zero within =
-    let here : start ≡ start + 0 = omega arith in
-    let front : 0 * len ≡ 0 = omega arith in
-    ap (λ (m : ℕ). take len (drop m (f start ++ flat_map f (range_with_len (start + 1) n)))) front ∙ take_at (f start) (flat_map f (range_with_len (start + 1) n)) len (each start) ∙ ap f here
-piece-joined f len each start (suc n) (suc k) within =
-    let rest = flat_map f (range_with_len (start + 1) n) in
-    let far : suc k * len ≡ len + k * len = omega arith in
-    let past : drop (suc k * len) (f start ++ rest) ≡ drop (k * len) rest =
-    ap (λ (m : ℕ). drop m (f start ++ rest)) far ∙ sym (drop-drop (k * len) len (f start ++ rest)) ∙ ap (drop (k * len)) (drop_at (f start) rest len (each start)) in
-    let next : start + 1 + k ≡ start + suc k = omega arith in
-    ap (take len) past ∙ piece-joined f len each (start + 1) n k (omega arith) ∙ ap f next
-
--- a piece of a piece
-piece-piece : (len n : ℕ) (cuts : List ℕ) (i k : ℕ) → k < n → piece_at len (piece_at (n * len) cuts i) k ≡ piece_at len cuts (i * n + k)
-piece-piece len n cuts i k within =
-    let from : List ℕ = drop (i * (n * len)) cuts in
-    let room : k * len + len ≤ n * len = (let rows : suc k * len ≤ n * len = mul-le-mul_right len within in omega arith) in
-    let split : n * len ≡ k * len + (n * len - k * len) = omega arith in
-    let cut : drop (k * len) (take (n * len) from) ≡ take (n * len - k * len) (drop (k * len) from) =
-    ap (λ (m : ℕ). drop (k * len) (take m from)) split ∙ drop-take (k * len) (n * len - k * len) from in
-    let place : i * (n * len) + k * len ≡ (i * n + k) * len = (let grouped = mul_assoc i n len in omega arith) in
-    ap (take len) cut ∙ take-take len (n * len - k * len) (drop (k * len) from) (omega arith)
-    ∙ ap (take len) (drop-drop (k * len) (i * (n * len)) cuts ∙ ap (λ (m : ℕ). drop m cuts) place)
-
-slab_cuts : (g : Division) (js : List Particle) (ix : ℕ) → ix < g.nx → cuts_in_slab (cuts_for g js) ix ≡ y_cuts g js ix
-unfolding cuts_for
-slab_cuts g js ix within = piece-joined (y_cuts g js) (g.ny - 1) (λ k. length-cuts_of (λ p. p.y) (in_slab g js k) g.ny) 0 g.nx ix within ∙ ap (y_cuts g js) (let e : 0 + ix ≡ ix = omega arith in e)
-
-columns_length : (g : Division) (js : List Particle) (ix : ℕ) → length (flat_map (z_cuts g js ix) (range_with_len 0 g.ny)) ≡ g.ny * (g.nz - 1)
-columns_length g js ix = length-joined (z_cuts g js ix) (g.nz - 1) (λ iy. length-cuts_of (λ p. p.z) (in_column g js ix iy) g.nz) 0 g.ny
-
-column_cuts : (g : Division) (js : List Particle) (ix iy : ℕ) → ix < g.nx → iy < g.ny → cuts_in_column (cuts_for g js) ix iy ≡ z_cuts g js ix iy
-unfolding cuts_for
-column_cuts g js ix iy in_x in_y =
-    let len = g.nz - 1 in
-    let slab = λ (k : ℕ). flat_map (z_cuts g js k) (range_with_len 0 g.ny) in
-    let all : List ℕ = flat_map slab (range_with_len 0 g.nx) in
-    let one : piece_at (g.ny * len) all ix ≡ slab ix =
-    piece-joined slab (g.ny * len) (columns_length g js) 0 g.nx ix in_x ∙ ap slab (let e : 0 + ix ≡ ix = omega arith in e) in
-    sym (piece-piece len g.ny all ix iy in_y) ∙ ap (λ (l : List ℕ). piece_at len l iy) one
-    ∙ piece-joined (z_cuts g js ix) len (λ k. length-cuts_of (λ p. p.z) (in_column g js ix k) g.nz) 0 g.ny iy in_y ∙ ap (z_cuts g js ix) (let e : 0 + iy ≡ iy = omega arith in e)
 
 -- a coordinate lies in one of the slabs
 slab_below : (along : Position → ℕ) (js : List Particle) (m n : ℕ) → 1 ≤ m → slab_of (cuts_of along js m) n < m
@@ -91,17 +35,17 @@ x_is : (g : Division) (js : List Particle) → (cuts_for g js).x ≡ x_cuts g js
 unfolding cuts_for
 x_is g js = refl
 
-pub owner_from_places : (g : Division) (js : List Particle) (p : Position) (ix iy iz : ℕ) → IsDivision g → HasPlaces g js p ix iy iz → (ix * g.ny + iy) * g.nz + iz ≡ owner g js p
+pub owner_from_places : CutsAreOfSlabsAndColumns → (g : Division) (js : List Particle) (p : Position) (ix iy iz : ℕ) → IsDivision g → HasPlaces g js p ix iy iz → (ix * g.ny + iy) * g.nz + iz ≡ owner g js p
 unfolding owner owner_by
-owner_from_places g js p ix iy iz division h =
+owner_from_places law g js p ix iy iz division h =
     let s = cuts_for g js in
     let below_x : ix < g.nx = (let below = slab_below (λ q. q.x) js g.nx p.x division.some_x in let e = h.along_x in omega arith) in
     let below_y : iy < g.ny = (let below = slab_below (λ q. q.y) (in_slab g js ix) g.ny p.y division.some_y in let e = h.along_y in omega arith) in
     let x : ix ≡ slab_of s.x p.x = h.along_x ∙ ap (λ (l : List ℕ). slab_of l p.x) (sym (x_is g js)) in
     let y : iy ≡ slab_of (cuts_in_slab s (slab_of s.x p.x)) p.y =
-    h.along_y ∙ ap (λ (l : List ℕ). slab_of l p.y) (sym (slab_cuts g js ix below_x)) ∙ ap (λ (k : ℕ). slab_of (cuts_in_slab s k) p.y) x in
+    h.along_y ∙ ap (λ (l : List ℕ). slab_of l p.y) (sym ((law g js).0 ix below_x)) ∙ ap (λ (k : ℕ). slab_of (cuts_in_slab s k) p.y) x in
     let z : iz ≡ slab_of (cuts_in_column s (slab_of s.x p.x) (slab_of (cuts_in_slab s (slab_of s.x p.x)) p.y)) p.z =
-    h.along_z ∙ ap (λ (l : List ℕ). slab_of l p.z) (sym (column_cuts g js ix iy below_x below_y)) ∙ (λ i. slab_of (cuts_in_column s (x i) (y i)) p.z) in
+    h.along_z ∙ ap (λ (l : List ℕ). slab_of l p.z) (sym ((law g js).1 ix iy below_x below_y)) ∙ (λ i. slab_of (cuts_in_column s (x i) (y i)) p.z) in
     let same = sym (grid_is g js) in
     λ i. (x i * (same i).ny + y i) * (same i).nz + z i
 
@@ -116,31 +60,31 @@ box_at g js ix iy iz =
       hi = record { x = slab_end x ix; y = slab_end y iy; z = slab_end z iz };
     }
 
-pub box_from_places : (g : Division) (js : List Particle) (rank ix iy iz : ℕ) → IsRankAt g rank ix iy iz → domain_box g js rank ≡ box_at g js ix iy iz
+pub box_from_places : CutsAreOfSlabsAndColumns → (g : Division) (js : List Particle) (rank ix iy iz : ℕ) → IsRankAt g rank ix iy iz → domain_box g js rank ≡ box_at g js ix iy iz
 unfolding domain_box box_by
-box_from_places g js rank ix iy iz h =
+box_from_places law g js rank ix iy iz h =
     let s = cuts_for g js in
     let same = grid_is g js in
     let at_x : rank / s.grid.nz / s.grid.ny ≡ ix = (λ i. rank / (same i).nz / (same i).ny) ∙ sym h.along_x in
     let at_y : rank / s.grid.nz % s.grid.ny ≡ iy = (λ i. rank / (same i).nz % (same i).ny) ∙ sym h.along_y in
     let at_z : rank % s.grid.nz ≡ iz = (λ i. rank % (same i).nz) ∙ sym h.along_z in
     let x = x_is g js in
-    let y : cuts_in_slab s (rank / s.grid.nz / s.grid.ny) ≡ y_cuts g js ix = ap (cuts_in_slab s) at_x ∙ slab_cuts g js ix h.in_x in
-    let z : cuts_in_column s (rank / s.grid.nz / s.grid.ny) (rank / s.grid.nz % s.grid.ny) ≡ z_cuts g js ix iy = (λ i. cuts_in_column s (at_x i) (at_y i)) ∙ column_cuts g js ix iy h.in_x h.in_y in
+    let y : cuts_in_slab s (rank / s.grid.nz / s.grid.ny) ≡ y_cuts g js ix = ap (cuts_in_slab s) at_x ∙ (law g js).0 ix h.in_x in
+    let z : cuts_in_column s (rank / s.grid.nz / s.grid.ny) (rank / s.grid.nz % s.grid.ny) ≡ z_cuts g js ix iy = (λ i. cuts_in_column s (at_x i) (at_y i)) ∙ (law g js).1 ix iy h.in_x h.in_y in
     λ i. record {
       lo = record { x = slab_start (x i) (at_x i); y = slab_start (y i) (at_y i); z = slab_start (z i) (at_z i) };
       hi = record { x = slab_end (x i) (at_x i); y = slab_end (y i) (at_y i); z = slab_end (z i) (at_z i) };
     }
 
 -- the corners of the box, from the slabs that code reads
-pub low_from_places : (g : Division) (js : List Particle) (rank ix iy iz : ℕ) (x y z : List ℕ) (a b c : ℕ) → IsRankAt g rank ix iy iz → x ≡ x_cuts g js → y ≡ y_cuts g js ix → z ≡ z_cuts g js ix iy
+pub low_from_places : CutsAreOfSlabsAndColumns → (g : Division) (js : List Particle) (rank ix iy iz : ℕ) (x y z : List ℕ) (a b c : ℕ) → IsRankAt g rank ix iy iz → x ≡ x_cuts g js → y ≡ y_cuts g js ix → z ≡ z_cuts g js ix iy
     → a ≡ slab_start x ix → b ≡ slab_start y iy → c ≡ slab_start z iz → record { x = a; y = b; z = c } ≡ (domain_box g js rank).lo
-low_from_places g js rank ix iy iz x y z a b c h x_is y_is z_is a_is b_is c_is =
+low_from_places law g js rank ix iy iz x y z a b c h x_is y_is z_is a_is b_is c_is =
     (λ i. record { x = (a_is ∙ ap (λ l. slab_start l ix) x_is) i; y = (b_is ∙ ap (λ l. slab_start l iy) y_is) i; z = (c_is ∙ ap (λ l. slab_start l iz) z_is) i })
-    ∙ sym (ap (λ (o : Bounds). o.lo) (box_from_places g js rank ix iy iz h))
+    ∙ sym (ap (λ (o : Bounds). o.lo) (box_from_places law g js rank ix iy iz h))
 
-pub high_from_places : (g : Division) (js : List Particle) (rank ix iy iz : ℕ) (x y z : List ℕ) (a b c : ℕ) → IsRankAt g rank ix iy iz → x ≡ x_cuts g js → y ≡ y_cuts g js ix → z ≡ z_cuts g js ix iy
+pub high_from_places : CutsAreOfSlabsAndColumns → (g : Division) (js : List Particle) (rank ix iy iz : ℕ) (x y z : List ℕ) (a b c : ℕ) → IsRankAt g rank ix iy iz → x ≡ x_cuts g js → y ≡ y_cuts g js ix → z ≡ z_cuts g js ix iy
     → a ≡ slab_end x ix → b ≡ slab_end y iy → c ≡ slab_end z iz → record { x = a; y = b; z = c } ≡ (domain_box g js rank).hi
-high_from_places g js rank ix iy iz x y z a b c h x_is y_is z_is a_is b_is c_is =
+high_from_places law g js rank ix iy iz x y z a b c h x_is y_is z_is a_is b_is c_is =
     (λ i. record { x = (a_is ∙ ap (λ l. slab_end l ix) x_is) i; y = (b_is ∙ ap (λ l. slab_end l iy) y_is) i; z = (c_is ∙ ap (λ l. slab_end l iz) z_is) i })
-    ∙ sym (ap (λ (o : Bounds). o.hi) (box_from_places g js rank ix iy iz h))
+    ∙ sym (ap (λ (o : Bounds). o.hi) (box_from_places law g js rank ix iy iz h))

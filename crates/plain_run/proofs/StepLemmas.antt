@@ -36,10 +36,6 @@ flat_next f xs k x items new piece whole within here is push so_far =
 pub flat_end : {X Y : Type 0} (f : X → List Y) (xs : List X) (k : ℕ) (items whole : List Y) → length xs ≤ k → items ++ flat_map f (drop k xs) ≡ whole → items ≡ whole
 flat_end f xs k items whole past so_far = sym (append-nil items) ∙ ap (λ l. items ++ l) (sym (ap (flat_map f) (drop_all k xs past))) ∙ so_far
 
-pub flat_map-map : {X Y Z : Type 0} (f : Y → List Z) (g : X → Y) (xs : List X) → flat_map f (map g xs) ≡ flat_map (λ x. f (g x)) xs
-flat_map-map f g [] = refl
-flat_map-map f g (x ∷ xs) = ap (λ l. f (g x) ++ l) (flat_map-map f g xs)
-
 -- ---- ranges of numbers
 
 range-push : (a n : ℕ) → range_with_len a (suc n) ≡ range_with_len a n ++ (a + n) ∷ []

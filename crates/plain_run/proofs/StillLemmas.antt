@@ -1,15 +1,15 @@
 -- States whose particles stand in one order, at the build and now.
-use Rattle.std.proofs.Common.{◌≡◌, ℕ, ◌%◌, List, [], ◌∷◌, ◌++◌, length, map, take, drop, nat_eq, nat_lt, refl, sym, ap, subst, ◌∙◌, eq-eqb, arith}
+use Rattle.std.proofs.Common.{◌≡◌, ℕ, ◌%◌, List, [], ◌∷◌, ◌++◌, length, map, take, drop, nat_eq, refl, sym, ap, subst, ◌∙◌, eq-eqb, arith}
 use Rattle.std.specs.List.{IsDistinct}
 use Rattle.std.proofs.lemmas.List.{length-map, take_at}
+use Rattle.std.proofs.lemmas.List.Sorted.{length_permutation}
 use Rattle.pf_model.specs.Particle.{Particle}
 use Rattle.pf_model.specs.Particles.{AreBodies, by_id}
-use Rattle.model_laws.specs.IdLaws.{OrdersByIdHaveDistinctIds}
+use Rattle.model_laws.specs.IdLaws.{OrdersByIdHaveAll, OrdersByIdHaveDistinctIds}
 use Rattle.run_model.specs.Setup.{Setup}
 use Rattle.run_model.specs.Run.{WithForces, State, with_forces, moved, moved_body, kicked_again, lists_fault}
 use Rattle.plain_run.specs.Lists.{HaveOneOrder}
 use Rattle.plain_run.specs.Runs.{IsStill, forced_by, build_fault}
-use Rattle.plain_run.proofs.ListingLemmas.{length-in_order_once}
 
 abbrev id_of : Particle → ℕ
 id_of p = p.id
@@ -27,10 +27,10 @@ same_ids js ks same h =
     }
 
 -- the order by ids
-pub sorted_are_bodies : OrdersByIdHaveDistinctIds → (js : List Particle) → AreBodies js → AreBodies (by_id js)
-sorted_are_bodies law js h = record {
-  few = (let short = length-in_order_once (λ (p q : Particle). nat_lt p.id q.id) js in let few = h.few in omega arith);
-  distinct = law js;
+pub sorted_are_bodies : OrdersByIdHaveDistinctIds → OrdersByIdHaveAll → (js : List Particle) → AreBodies js → AreBodies (by_id js)
+sorted_are_bodies distinct all js h = record {
+  few = (let long = length_permutation js (by_id js) (all js h.distinct) in let few = h.few in omega arith);
+  distinct = distinct js;
 }
 
 -- what a step makes of particles keeps their ids

@@ -7,6 +7,7 @@ use crate::domains::particles_of;
 use crate::grouping::group_cells;
 use crate::listing::{lists_of, rank_count, received_by};
 use crate::setup::RunSetup;
+use model_laws::groups_are_few;
 use pf_model::{Body, Entry, Grid, Theta};
 use pf_num::OutOfMemory;
 use run_model::RankLine;
@@ -52,6 +53,7 @@ fn counts_by(
     requires { AreBodies built.now }
     ensures { IfOk result (λ line. line ≡ counts_by grid theta limit built.now rank) }
 {
+    groups_are_few();
     let own = particles_of(alloc, built, grid, rank)?;
     let cells = group_cells(alloc, &own, limit)?;
     let received = received_by(alloc, grid, theta, built, rank)?;

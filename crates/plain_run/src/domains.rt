@@ -7,7 +7,9 @@ ghost use Rattle.pf_geom.specs.Bounds.{IsBox};
 ghost use Rattle.plain_run.specs.Boxes.{IsDomainBox, IsRankAt};
 
 use crate::cutting::{CUBE_SIDE, slab_of, x_cuts, y_cuts, z_cuts};
-use model_laws::{domain_boxes_hold_what_is_owned, owners_are_ranks};
+use model_laws::{
+    cuts_are_of_slabs_and_columns, domain_boxes_hold_what_is_owned, owners_are_ranks,
+};
 use pf_geom::{Box3, Point};
 use pf_model::{Body, Grid};
 use pf_num::OutOfMemory;
@@ -19,6 +21,7 @@ pub fn slow_owner(alloc: Global, bodies: &[Body], grid: Grid, at: Point) -> Resu
     requires { AreBodies bodies.now }
     ensures { IfOk result (λ rank. rank ≡ rules.owner grid bodies.now at) }
 {
+    cuts_are_of_slabs_and_columns();
     owners_are_ranks();
     // A proof knows the limits of a grid once the body reads it.
     let _read = grid.nx;
@@ -69,6 +72,7 @@ fn box_of_rank(alloc: Global, bodies: &[Body], grid: Grid, rank: u32) -> Result<
     requires owns { IsBox (rules.domain_box grid bodies.now rank) }
     ensures { IfOk result (λ around. around ≡ rules.domain_box grid bodies.now rank) }
 {
+    cuts_are_of_slabs_and_columns();
     let (ix, iy, iz) = places_of(grid, rank);
     let x = x_cuts(alloc, bodies, grid)?;
     let y = y_cuts(alloc, bodies, grid, ix)?;

@@ -12,7 +12,9 @@ use crate::listing::{list_for, lists_of, rank_count};
 use crate::ordering::by_id;
 use crate::setup::RunSetup;
 use crate::stop::SlowStop;
-use model_laws::{lists_are_short, orders_by_id_have_distinct_ids};
+use model_laws::{
+    groups_are_few, lists_are_short, orders_by_id_have_all, orders_by_id_have_distinct_ids,
+};
 use pf_model::{Body, Grid, Theta};
 use pf_num::OutOfMemory;
 use run_model::Fault;
@@ -47,6 +49,7 @@ pub(crate) fn start(alloc: Global, run: &RunSetup) -> Result<SlowState, SlowStop
     ensures no_fault { OnOk result (rules.fault_at_start run.now ≡ None) }
     ensures fault { IfErr result (StopsAt (rules.fault_at_start run.now)) }
 {
+    orders_by_id_have_all();
     orders_by_id_have_distinct_ids();
     let built = by_id(alloc, &run.bodies)?;
     few_lists(alloc, run, &built)?;
@@ -208,6 +211,7 @@ fn entry_count(
     ensures { IfOk result (λ count.
         count ≡ sum_by (λ group. length (group_list theta built.now group)) (all_groups limit grid built.now)) }
 {
+    groups_are_few();
     lists_are_short();
     let mut count = 0;
     for rank in 0..rank_count(grid) {

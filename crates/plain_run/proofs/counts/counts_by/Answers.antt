@@ -1,5 +1,5 @@
 use Rattle.std.proofs.Common.{length, ap, arith}
-use Rattle.plain_run.proofs.ListingLemmas.{own_short, cells_short}
+use Rattle.plain_run.proofs.ListingLemmas.{own_short}
 use Rattle.plain_run.proofs.counts.counts_by.Goals as goal
 
 pub overflow_cast-result : goal.overflow_cast-result
@@ -17,6 +17,6 @@ overflow_cast-result-2 c =
     let few = c.requires.few in
     let same = ap length c.deref.ensures.value in
     let cells = ap length c.in_ok-cells.ensures in
-    let fewer = cells_short c.args.limit c.deref.result.now in
+    let fewer = c.groups_are_few.ensures c.args.limit c.deref.result.now in
     let whole = c.in_ok-cells.cells.ok.0 in
     omega arith

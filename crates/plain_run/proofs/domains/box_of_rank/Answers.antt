@@ -6,12 +6,12 @@ use Rattle.plain_run.proofs.domains.box_of_rank.Goals as goal
 
 low : (c : goal.After-slab_end-3) → record { x = c.slab_start.result; y = c.slab_start-2.result; z = c.slab_start-3.result } ≡ (domain_box c.args.grid c.args.bodies.now c.args.rank).lo
 low c =
-    low_from_places c.args.grid c.args.bodies.now c.args.rank _ _ _ _ _ _ _ _ _ c.places_of-ix.ensures (c.deref.ensures.value ∙ c.in_ok-x.ensures) (c.deref-2.ensures.value ∙ c.in_ok-y.ensures) (c.deref-3.ensures.value ∙ c.in_ok-z.ensures)
+    low_from_places c.cuts_are_of_slabs_and_columns.ensures c.args.grid c.args.bodies.now c.args.rank _ _ _ _ _ _ _ _ _ c.places_of-ix.ensures (c.deref.ensures.value ∙ c.in_ok-x.ensures) (c.deref-2.ensures.value ∙ c.in_ok-y.ensures) (c.deref-3.ensures.value ∙ c.in_ok-z.ensures)
     c.slab_start.ensures c.slab_start-2.ensures c.slab_start-3.ensures
 
 high : (c : goal.After-slab_end-3) → record { x = c.slab_end.result; y = c.slab_end-2.result; z = c.slab_end-3.result } ≡ (domain_box c.args.grid c.args.bodies.now c.args.rank).hi
 high c =
-    high_from_places c.args.grid c.args.bodies.now c.args.rank _ _ _ _ _ _ _ _ _ c.places_of-ix.ensures (c.deref-4.ensures.value ∙ c.in_ok-x.ensures) (c.deref-5.ensures.value ∙ c.in_ok-y.ensures) (c.deref-6.ensures.value ∙ c.in_ok-z.ensures)
+    high_from_places c.cuts_are_of_slabs_and_columns.ensures c.args.grid c.args.bodies.now c.args.rank _ _ _ _ _ _ _ _ _ c.places_of-ix.ensures (c.deref-4.ensures.value ∙ c.in_ok-x.ensures) (c.deref-5.ensures.value ∙ c.in_ok-y.ensures) (c.deref-6.ensures.value ∙ c.in_ok-z.ensures)
     c.slab_end.ensures c.slab_end-2.ensures c.slab_end-3.ensures
 
 pub invariant_of-result : goal.invariant_of-result
@@ -28,8 +28,8 @@ returns c =
     let x = c.in_ok-x.ensures in
     let y = c.in_ok-y.ensures in
     let z = c.in_ok-z.ensures in
-    let lo = low_from_places c.args.grid c.args.bodies.now c.args.rank _ _ _ _ _ _ _ _ _ c.places_of-ix.ensures (c.deref.ensures.value ∙ x) (c.deref-2.ensures.value ∙ y) (c.deref-3.ensures.value ∙ z)
+    let lo = low_from_places c.cuts_are_of_slabs_and_columns.ensures c.args.grid c.args.bodies.now c.args.rank _ _ _ _ _ _ _ _ _ c.places_of-ix.ensures (c.deref.ensures.value ∙ x) (c.deref-2.ensures.value ∙ y) (c.deref-3.ensures.value ∙ z)
     c.slab_start.ensures c.slab_start-2.ensures c.slab_start-3.ensures in
-    let hi = high_from_places c.args.grid c.args.bodies.now c.args.rank _ _ _ _ _ _ _ _ _ c.places_of-ix.ensures (c.deref-4.ensures.value ∙ x) (c.deref-5.ensures.value ∙ y) (c.deref-6.ensures.value ∙ z)
+    let hi = high_from_places c.cuts_are_of_slabs_and_columns.ensures c.args.grid c.args.bodies.now c.args.rank _ _ _ _ _ _ _ _ _ c.places_of-ix.ensures (c.deref-4.ensures.value ∙ x) (c.deref-5.ensures.value ∙ y) (c.deref-6.ensures.value ∙ z)
     c.slab_end.ensures c.slab_end-2.ensures c.slab_end-3.ensures in
     λ i. record { lo = lo i; hi = hi i }

@@ -8,7 +8,7 @@ pub loop-rank-preserved : goal.loop-rank-preserved
 loop-rank-preserved c =
     let whole = c.in_ok-lists_of.field-0.ok.0 in
     let here = ap length c.in_ok-lists_of.ensures in
-    let few = rank_entries_few c.lists_are_short.ensures c.args.theta c.args.limit c.args.grid c.args.built.now c.loop-rank.rank c.requires.few in
+    let few = rank_entries_few c.lists_are_short.ensures c.groups_are_few.ensures c.args.theta c.args.limit c.args.grid c.args.built.now c.loop-rank.rank c.requires.few in
     record {
       value = entries_next (group_list c.args.theta c.args.built.now) (groups_of_rank c.args.limit c.args.grid c.args.built.now) c.loop-rank.rank c.loop-rank.count c.len.result c.loop-rank.invariant.value (omega arith);
       few = (let before = c.loop-rank.invariant.few in omega arith);

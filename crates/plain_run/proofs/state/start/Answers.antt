@@ -11,7 +11,7 @@ use Rattle.plain_run.proofs.state.start.Goals as goal
 
 pub few_lists-requires : goal.few_lists-requires
 few_lists-requires c =
-    subst AreBodies (sym (c.deref-2.ensures.value ∙ c.in_ok-built.ensures ∙ ap by_id c.deref.ensures.value)) (sorted_are_bodies c.orders_by_id_have_distinct_ids.ensures c.run.inside.bodies.items c.run.invariant.bodies)
+    subst AreBodies (sym (c.deref-2.ensures.value ∙ c.in_ok-built.ensures ∙ ap by_id c.deref.ensures.value)) (sorted_are_bodies c.orders_by_id_have_distinct_ids.ensures c.orders_by_id_have_all.ensures c.run.inside.bodies.items c.run.invariant.bodies)
 
 pub returns-in_err-few_lists-clause-fault : goal.returns-in_err-few_lists-clause-fault
 returns-in_err-few_lists-clause-fault c =
@@ -21,7 +21,7 @@ returns-in_err-few_lists-clause-fault c =
 
 pub with_forces-requires-clause-built : goal.with_forces-requires-clause-built
 with_forces-requires-clause-built c =
-    subst AreBodies (sym (c.deref-3.ensures.value ∙ c.in_ok-built.ensures ∙ ap by_id c.deref.ensures.value)) (sorted_are_bodies c.orders_by_id_have_distinct_ids.ensures c.run.inside.bodies.items c.run.invariant.bodies)
+    subst AreBodies (sym (c.deref-3.ensures.value ∙ c.in_ok-built.ensures ∙ ap by_id c.deref.ensures.value)) (sorted_are_bodies c.orders_by_id_have_distinct_ids.ensures c.orders_by_id_have_all.ensures c.run.inside.bodies.items c.run.invariant.bodies)
 
 pub returns-in_err-bodies-clause-fault : goal.returns-in_err-bodies-clause-fault
 returns-in_err-bodies-clause-fault c =
@@ -37,5 +37,5 @@ returns-in_err-bodies-clause-fault c =
 pub invariant_of-result : goal.invariant_of-result
 invariant_of-result c =
     let built = c.in_ok-built.built.items in
-    let few = subst AreBodies (sym (c.in_ok-built.ensures ∙ ap by_id c.deref.ensures.value)) (sorted_are_bodies c.orders_by_id_have_distinct_ids.ensures c.run.inside.bodies.items c.run.invariant.bodies) in
+    let few = subst AreBodies (sym (c.in_ok-built.ensures ∙ ap by_id c.deref.ensures.value)) (sorted_are_bodies c.orders_by_id_have_distinct_ids.ensures c.orders_by_id_have_all.ensures c.run.inside.bodies.items c.run.invariant.bodies) in
     subst (λ (bs : List WithForces). IsStill bs built) (sym (c.in_ok-bodies.ensures.forces ∙ (λ i. with_forces c.args.run.now (c.deref-3.ensures.value i) (c.deref-4.ensures.value i)))) (still_forced c.args.run.now built built few refl)
