@@ -3,7 +3,6 @@ mod PieceLemmas
 mod SlabLemmas
 mod OwnedLemmas
 mod TreeLemmas
-mod TargetLemmas
 mod StepLemmas
 mod PairLemmas
 mod KeptLemmas

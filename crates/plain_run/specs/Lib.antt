@@ -1,6 +1,5 @@
 pub mod Axes
 pub mod Boxes
-pub mod Targets
 pub mod Lists
 pub mod Forces
 pub mod Runs

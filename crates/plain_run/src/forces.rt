@@ -15,11 +15,10 @@ ghost use Rattle.plain_run.specs.Forces.{IsForceStop, IsSumStop, numbers_along, 
 ghost use Rattle.plain_run.specs.Forces.{force_of, gives_to, slot_numbers, pairs_with, row_over, first_sum_fault};
 
 use crate::seen::{exerted, received};
-use crate::targets::targets_of;
 use kern_meaning::{PairFault, Scratch, for_kernel, pair, slot};
 use kern_token::Name;
 use kern_tree::{Combine, Kind};
-use kern_types::{ForceVar, Typed, forces, forces_and_slots_are_few, kernel, slots};
+use kern_types::{ForceVar, Typed, forces, forces_and_slots_are_few, kernel, slots, targets};
 use moments::item;
 use pf_geom::Edge;
 use pf_model::{Body, Entry, Item, Moment};
@@ -81,7 +80,7 @@ pub fn slow_forces(
     forces_and_slots_are_few();
     let _kernel = kernel(t);
     let mut scratch = for_kernel(alloc, t)?;
-    let targets = targets_of(alloc, kernel(t).body.as_slice())?;
+    let targets = targets(alloc, t)?;
     if let Some(what) = first_pair_fault(t, edge, entries, i, &mut scratch) {
         return Err(ForceStop::Fault(what));
     }

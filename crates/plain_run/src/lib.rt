@@ -16,7 +16,6 @@ mod seen;
 mod setup;
 mod state;
 mod stop;
-mod targets;
 
 pub use domains::{slow_domain_box, slow_owner};
 pub use essential::slow_essential;

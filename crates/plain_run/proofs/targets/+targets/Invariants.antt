@@ -1,6 +1,0 @@
-use Rattle.std.proofs.Common.{◌≡◌, ◌++◌, drop}
-use Rattle.kern_meaning.specs.Pair.{targets_in}
-use Rattle.plain_run.proofs.targets.+targets.Given as goal
-
-abbrev pub invariant-push_targets-loop-stmt : goal.invariant-push_targets-loop-stmt
-invariant-push_targets-loop-stmt l = l.names.items ++ targets_in (drop l.stmt-index l.block) ≡ l.fn.names.items ++ targets_in l.block
