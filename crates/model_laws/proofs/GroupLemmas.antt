@@ -13,7 +13,8 @@ use Rattle.std.specs.List.{AllPairs, Contains}
 use Rattle.pf_model.specs.Particle.{Particle}
 use Rattle.pf_model.specs.Group.{particles_in, group_level, group_cell, has_lower_corner, group_cells}
 use Rattle.model_laws.specs.GroupLaws.{IsGroupLevel, GroupLevelsAreLeast, PositionsShareTheirGroup, MembersShareTheirGroup, AreGroupCells, GroupCellsAreOrdered, EachIsInOneGroup, GroupsAreFew}
-use Rattle.order_laws.proofs.LeastLemmas.{IsLeast, IsLeast-least_below}
+use Rattle.order_laws.specs.OrderLaws.{IsLeast}
+use Rattle.order_laws.proofs.LeastLemmas.{IsLeast-least_below}
 use Rattle.order_laws.proofs.OrderLemmas.{In, IsStrict, IsConnected, IsAscending, IsAscending-in_order, in_from_in_order, in_order_from_in}
 use Rattle.order_laws.proofs.ElementLemmas.{in_from_contains, contains_from_in, before_at, one_place}
 use Rattle.pf_model.proofs.EntryLemmas.{same_cell}

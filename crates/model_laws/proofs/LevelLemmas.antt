@@ -7,7 +7,8 @@ use Rattle.pf_geom.specs.Octant.{Octant, cell_at}
 use Rattle.pf_model.specs.Criterion.{Criterion, Passes}
 use Rattle.pf_model.specs.Interaction.{passes, level_of}
 use Rattle.model_laws.specs.ListLaws.{IsFirstPassing, NonePasses}
-use Rattle.order_laws.proofs.LeastLemmas.{IsLeast, IsLeast-least_below}
+use Rattle.order_laws.specs.OrderLaws.{IsLeast}
+use Rattle.order_laws.proofs.LeastLemmas.{IsLeast-least_below}
 use Rattle.pf_model.proofs.LevelLemmas.{test-from_Passes, passes_at, level_from_least}
 
 pub Passes-from_test : (box : Bounds) (c : Octant) (t : Criterion) → passes box c t ≡ true → Passes box c t

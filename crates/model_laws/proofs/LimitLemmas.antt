@@ -7,7 +7,7 @@ use Rattle.std.proofs.lemmas.List.Elements.{All-head, All-tail, All-replicate, A
 use Rattle.pf_model.specs.Particle.{Particle, IsParticle, IsAttribute}
 use Rattle.pf_model.specs.Totals.{Totals, IsTotals}
 use Rattle.pf_model.specs.Sums.{moment_of, together, pairwise_sums}
-use Rattle.model_laws.specs.MomentLaws.{MomentsKeepTheirLimits, SourcesKeepTheirLimits}
+use Rattle.model_laws.specs.MomentLaws.{MomentsKeepTheirLimits, JoinedMomentsKeepTheirLimits, SourcesKeepTheirLimits}
 use Rattle.pf_model.proofs.MomentLemmas.{IsSumOf-pairwise, inside-sums, three_of, weighted_at, attributes_of_one, count-moment_of, moment_of-append}
 
 length-pairwise_sums : (xs ys : List ℤ) → length xs ≡ length ys → length (pairwise_sums xs ys) ≡ length ys
@@ -16,7 +16,7 @@ length-pairwise_sums [] (y ∷ ys) e = absurd (omega arith)
 length-pairwise_sums (x ∷ xs) [] e = absurd (omega arith)
 length-pairwise_sums (x ∷ xs) (y ∷ ys) e = let h = length-pairwise_sums xs ys (omega arith) in omega arith
 
-IsTotals-together : (m n : Totals) → m.count + n.count ≤ 65536 → IsTotals m → IsTotals n → IsTotals (together m n)
+pub IsTotals-together : JoinedMomentsKeepTheirLimits
 IsTotals-together m n few p q = record {
   three = refl;
   eight = length-pairwise_sums m.attr n.attr (p.eight ∙ sym q.eight) ∙ q.eight;

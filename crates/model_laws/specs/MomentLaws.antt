@@ -1,5 +1,5 @@
 -- Laws of moments.
-use Rattle.std.specs.Prelude.{◌≡◌, ◌≤◌, List, ◌++◌, length, All, IsPermutation}
+use Rattle.std.specs.Prelude.{◌≡◌, ◌+◌, ◌≤◌, List, ◌++◌, length, All, IsPermutation}
 use Rattle.pf_model.specs.declared.limits.TheConstants.{MOST_PARTICLES}
 use Rattle.pf_model.specs.declared.entry.Entry.{Entry}
 use Rattle.pf_model.specs.Particle.{Particle, IsParticle}
@@ -11,11 +11,15 @@ use Rattle.pf_model.specs.Sufficiency.{moment_together}
 abbrev pub MomentsAddUp : Type 0
 MomentsAddUp = (is js : List Particle) → moment_of (is ++ js) ≡ together (moment_of is) (moment_of js)
 
--- particles that have the same moment together with others have the same moment
+-- a moment that has each of its sums
+pub record HasEachSum (m : Totals) : Type 0 where
+  pub three : length m.weighted ≡ 3
+  pub eight : length m.attr ≡ 8
+
+-- moments that make the same together with another one are the same
 abbrev pub MomentsCancel : Type 0
 MomentsCancel =
-    (is js ks : List Particle) → together (moment_of is) (moment_of js) ≡ together (moment_of is) (moment_of ks) →
-    moment_of js ≡ moment_of ks
+    (m n o : Totals) → HasEachSum m → HasEachSum n → HasEachSum o → together m n ≡ together m o → n ≡ o
 
 -- the order of particles changes nothing in their moment
 abbrev pub MomentsIgnoreOrder : Type 0
@@ -24,6 +28,11 @@ MomentsIgnoreOrder = (js ks : List Particle) → IsPermutation js ks → moment_
 -- the moment of few particles that keep their limits keeps its own
 abbrev pub MomentsKeepTheirLimits : Type 0
 MomentsKeepTheirLimits = (js : List Particle) → length js ≤ MOST_PARTICLES → All IsParticle js → IsTotals (moment_of js)
+
+-- two moments, of few enough particles together, keep them together
+abbrev pub JoinedMomentsKeepTheirLimits : Type 0
+JoinedMomentsKeepTheirLimits =
+    (m n : Totals) → m.count + n.count ≤ MOST_PARTICLES → IsTotals m → IsTotals n → IsTotals (together m n)
 
 -- and where there is a particle, so does the source that they are
 abbrev pub SourcesKeepTheirLimits : Type 0

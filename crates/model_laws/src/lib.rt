@@ -38,9 +38,9 @@ pub use list_laws::{
 };
 pub use merging_laws::{lists_merge, merged_lists_share_cells};
 pub use moment_laws::{
-    entries_join_in_any_order, entries_join_their_moments, moments_add_up, moments_cancel,
-    moments_ignore_order, moments_join_in_any_order, moments_keep_their_limits,
-    sources_keep_their_limits,
+    entries_join_in_any_order, entries_join_their_moments, joined_moments_keep_their_limits,
+    moments_add_up, moments_cancel, moments_ignore_order, moments_join_in_any_order,
+    moments_keep_their_limits, sources_keep_their_limits,
 };
 pub use opening_laws::{
     cells_inside_pass, cells_pass_for_boxes_inside, nothing_passes_at_zero, passing_cells_lie_apart,

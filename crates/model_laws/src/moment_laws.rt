@@ -3,14 +3,14 @@
 
 ghost use Rattle.model_laws.specs.MomentLaws.{MomentsAddUp, MomentsCancel, MomentsIgnoreOrder, MomentsKeepTheirLimits};
 ghost use Rattle.model_laws.specs.MomentLaws.{SourcesKeepTheirLimits, MomentsJoinInAnyOrder, EntriesJoinTheirMoments};
-ghost use Rattle.model_laws.specs.MomentLaws.{EntriesJoinInAnyOrder};
+ghost use Rattle.model_laws.specs.MomentLaws.{EntriesJoinInAnyOrder, JoinedMomentsKeepTheirLimits};
 
 /// The moment of some particles and others is that of both together.
 pub fn moments_add_up()
     ensures { MomentsAddUp }
 {}
 
-/// Particles that have the same moment together with others have the same moment.
+/// Moments that make the same together with another one are the same.
 pub fn moments_cancel()
     ensures { MomentsCancel }
 {}
@@ -23,6 +23,11 @@ pub fn moments_ignore_order()
 /// The moment of few particles that keep their limits keeps its own.
 pub fn moments_keep_their_limits()
     ensures { MomentsKeepTheirLimits }
+{}
+
+/// Two moments, of few enough particles together, keep their limits together.
+pub fn joined_moments_keep_their_limits()
+    ensures { JoinedMomentsKeepTheirLimits }
 {}
 
 /// The source that some particles are keeps its limits.

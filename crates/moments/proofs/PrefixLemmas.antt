@@ -1,4 +1,4 @@
--- The moments of prefixes and ranges of a list, and their limits.
+-- The moments of prefixes and ranges of a list.
 use Rattle.std.proofs.Common.{◌≡◌, ℕ, ◌+◌, ◌-◌, ◌*◌, ◌^◌, ◌<◌, ◌≤◌, ℤ, pos, ◌+ℤ◌, unsigned_abs, List, [], ◌∷◌, ◌++◌, length, get_or, take, drop, map, inl, inr, refl, sym, ◌∙◌, ap, subst, arith}
 use Rattle.std.specs.List.{All, range_with_len}
 use Rattle.std.proofs.Math.Seq.{take-add, take-append_seam}
@@ -9,8 +9,8 @@ use Rattle.std.proofs.lemmas.List.FromFn.{length-map-range_with_len, get_or-map-
 use Rattle.std.proofs.lemmas.List.Elements.{All-nil, All-cons, All-head, All-tail, All-weaker, All-replicate, All-same, All-push}
 use Rattle.pf_model.specs.Particle.{Particle}
 use Rattle.pf_model.specs.Totals.{Totals, IsTotals}
-use Rattle.pf_model.specs.Sums.{moment_of, together, pairwise_sums}
-use Rattle.model_laws.specs.MomentLaws.{MomentsAddUp}
+use Rattle.pf_model.specs.Sums.{moment_of, together}
+use Rattle.model_laws.specs.MomentLaws.{MomentsAddUp, HasEachSum}
 use Rattle.moments.specs.Prefix.{prefix_moments, HasLimitedMoment}
 
 -- the first n of the prefix moments
@@ -27,80 +27,10 @@ pub count_is : (js : List Particle) → (moment_of js).count ≡ length js
 unfolding moment_of
 count_is js = refl
 
-pub three_weighted : (js : List Particle) → length (moment_of js).weighted ≡ 3
+-- the moment of particles has each sum
+pub each_sum : (js : List Particle) → HasEachSum (moment_of js)
 unfolding moment_of
-three_weighted js = refl
-
-pub eight_attributes : (js : List Particle) → length (moment_of js).attr ≡ 8
-unfolding moment_of
-eight_attributes js = refl
-
--- the limits of both together
-
-abs-add : (a b : ℤ) (m n : ℕ) → unsigned_abs a ≤ m → unsigned_abs b ≤ n → unsigned_abs (a +ℤ b) ≤ m + n
-abs-add a b m n p q = omega (arith, ints)
-
-All-pairwise_sums : (m n : ℕ) (xs ys : List ℤ) → All (λ x. unsigned_abs x ≤ m) xs → All (λ x. unsigned_abs x ≤ n) ys → All (λ x. unsigned_abs x ≤ m + n) (pairwise_sums xs ys)
-All-pairwise_sums m n [] ys p q = All-nil (λ x. unsigned_abs x ≤ m + n)
-All-pairwise_sums m n (x ∷ xs) [] p q = All-nil (λ x. unsigned_abs x ≤ m + n)
-All-pairwise_sums m n (x ∷ xs) (y ∷ ys) p q =
-    All-cons (λ x. unsigned_abs x ≤ m + n) (x +ℤ y) (pairwise_sums xs ys)
-    (abs-add x y m n (All-head (λ x. unsigned_abs x ≤ m) x xs p) (All-head (λ x. unsigned_abs x ≤ n) y ys q))
-    (All-pairwise_sums m n xs ys (All-tail (λ x. unsigned_abs x ≤ m) x xs p) (All-tail (λ x. unsigned_abs x ≤ n) y ys q))
-
-length-pairwise_sums : (xs ys : List ℤ) → length xs ≡ length ys → length (pairwise_sums xs ys) ≡ length ys
-length-pairwise_sums [] [] e = refl
-length-pairwise_sums [] (y ∷ ys) e = absurd (omega arith)
-length-pairwise_sums (x ∷ xs) [] e = absurd (omega arith)
-length-pairwise_sums (x ∷ xs) (y ∷ ys) e = let h = length-pairwise_sums xs ys (omega arith) in omega arith
-
-at_most : (most : ℕ) (ws : List ℕ) (k : ℕ) → All (λ w. w ≤ most) ws → get_or ws k 0 ≤ most
-at_most most ws k all =
-    elim (cases_lt k (length ws)) [
-      | inl within ↦ all k 0 within
-      | inr past ↦ rw (get_or_past ws k 0 past) (omega arith)
-    ]
-
-three_of : (P : ℕ → Type 0) (a b c : ℕ) → P a → P b → P c → All P (a ∷ b ∷ c ∷ [])
-three_of P a b c p q r = All-cons P a (b ∷ c ∷ []) p (All-cons P b (c ∷ []) q (All-cons P c [] r (All-nil P)))
-
-pub IsTotals-together : (m n : Totals) → m.count + n.count ≤ 65536 → IsTotals m → IsTotals n → IsTotals (together m n)
-IsTotals-together m n few p q =
-    let ps = p.limits.sums in
-    let qs = q.limits.sums in
-    let each : (k : ℕ) → get_or m.weighted k 0 + get_or n.weighted k 0 ≤ (m.mass + n.mass) * (2 ^ 30 - 1) = λ k.
-    (let a = at_most (m.mass * (2 ^ 30 - 1)) m.weighted k p.limits.inside in let b = at_most (n.mass * (2 ^ 30 - 1)) n.weighted k q.limits.inside in omega arith) in
-    record {
-      three = refl;
-      eight = length-pairwise_sums m.attr n.attr (p.eight ∙ sym q.eight) ∙ q.eight;
-      limits = record {
-        sums = record {
-          few = few;
-          heavy = (let a = ps.heavy in let b = qs.heavy in omega arith);
-          light = (let a = ps.light in let b = qs.light in omega arith);
-          small =
-              All-weaker (λ x. unsigned_abs x ≤ m.count * 2 ^ 40 + n.count * 2 ^ 40) (λ x. unsigned_abs x ≤ (m.count + n.count) * 2 ^ 40) (λ x h. omega arith)
-              (pairwise_sums m.attr n.attr) (All-pairwise_sums (m.count * 2 ^ 40) (n.count * 2 ^ 40) m.attr n.attr ps.small qs.small);
-        };
-        inside = three_of (λ w. w ≤ (m.mass + n.mass) * (2 ^ 30 - 1)) _ _ _ (each 0) (each 1) (each 2);
-      };
-    }
-
-pub IsTotals-none : IsTotals (moment_of [])
-unfolding moment_of
-IsTotals-none = record {
-  three = refl;
-  eight = refl;
-  limits = record {
-    sums = record {
-      few = omega arith;
-      heavy = omega arith;
-      light = omega arith;
-      small = All-replicate (λ a. unsigned_abs a ≤ 0 * 2 ^ 40) 8 (pos 0) (omega arith);
-    };
-    inside = three_of (λ w. w ≤ 0 * (2 ^ 30 - 1)) 0 0 0 (omega arith) (omega arith) (omega arith);
-  };
-}
+each_sum js = record { three = refl; eight = refl }
 
 -- the moment at a place
 at_prefix : (js : List Particle) (ms : List Totals) (k : ℕ) (d : Totals) → ms ≡ prefix_moments js → k < length ms → get_or ms k d ≡ moment_of (take k js)

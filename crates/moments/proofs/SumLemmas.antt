@@ -1,18 +1,18 @@
 -- Sums of moments, their limits, and the sums of the first of a list.
-use Rattle.std.proofs.Common.{◌≡◌, ℕ, ◌+◌, ◌<◌, ◌≤◌, ℤ, pos, ◌+ℤ◌, List, [], ◌∷◌, ◌++◌, length, get_or, take, drop, map, refl, sym, ◌∙◌, ap, arith}
+use Rattle.std.proofs.Common.{◌≡◌, ℕ, ◌+◌, ◌<◌, ◌≤◌, ℤ, pos, ◌+ℤ◌, List, [], ◌∷◌, ◌++◌, length, get_or, take, drop, map, refl, sym, ◌∙◌, ap, subst, arith}
 use Rattle.std.specs.List.{All, range_with_len}
 use Rattle.std.proofs.Math.Seq.{take-add}
 use Rattle.std.proofs.lemmas.Int.{ints}
 use Rattle.std.proofs.lemmas.List.{length-map, take-map, take_more}
 use Rattle.std.proofs.lemmas.List.FromFn.{length-map-range_with_len, get_or-map-range_with_len, map-range_with_len_more}
 use Rattle.std.proofs.lemmas.List.Sums.{sum_by-cons, sum_by-take-le, sum_by-take-drop, sum_by_more_le}
-use Rattle.std.proofs.lemmas.List.Elements.{All-head, All-tail, All-take, All-drop, All-map, All-same, All-push}
-use Rattle.pf_model.specs.Particle.{Particle}
+use Rattle.std.proofs.lemmas.List.Elements.{All-nil, All-head, All-tail, All-take, All-drop, All-map, All-same, All-push}
+use Rattle.pf_model.specs.Particle.{Particle, IsParticle}
 use Rattle.pf_model.specs.Totals.{Totals, IsTotals}
-use Rattle.pf_model.specs.Sums.{moment_of, together, pairwise_sums}
-use Rattle.model_laws.specs.MomentLaws.{MomentsAddUp, MomentsJoinInAnyOrder}
-use Rattle.moments.specs.Prefix.{prefix_moments, HasLimitedMoment, all_together, prefix_sums, particle_count, IsPrefix}
-use Rattle.moments.proofs.PrefixLemmas.{count_is, three_weighted, eight_attributes, IsTotals-together, IsTotals-none}
+use Rattle.pf_model.specs.Sums.{moment_of, together, all_together, pairwise_sums}
+use Rattle.model_laws.specs.MomentLaws.{MomentsAddUp, MomentsJoinInAnyOrder, MomentsKeepTheirLimits, JoinedMomentsKeepTheirLimits, HasEachSum}
+use Rattle.moments.specs.Prefix.{prefix_moments, HasLimitedMoment, prefix_sums, particle_count, IsPrefix}
+use Rattle.moments.proofs.PrefixLemmas.{count_is, each_sum}
 
 none_together : together (moment_of []) (moment_of []) ≡ moment_of []
 unfolding moment_of
@@ -43,67 +43,34 @@ counted : (ms : List Totals) → (all_together ms).count ≡ particle_count ms
 counted [] = no_count
 counted (m ∷ ms) = ap (λ (n : ℕ). m.count + n) (counted ms) ∙ sym (sum_by-cons (λ (t : Totals). t.count) m ms)
 
-pub three_of_all : (ms : List Totals) → length (all_together ms).weighted ≡ 3
-three_of_all [] = three_weighted []
-three_of_all (m ∷ ms) = refl
-
 length-sums : (xs ys : List ℤ) (n : ℕ) → length xs ≡ n → length ys ≡ n → length (pairwise_sums xs ys) ≡ n
 length-sums [] ys n e f = e
 length-sums (x ∷ xs) [] n e f = f
 length-sums (x ∷ xs) (y ∷ ys) n e f = let rest = length-sums xs ys (length xs) refl (omega arith) in omega arith
 
-eight_of_all : (ms : List Totals) → All IsTotals ms → length (all_together ms).attr ≡ 8
-eight_of_all [] limits = eight_attributes []
-eight_of_all (m ∷ ms) limits = length-sums m.attr (all_together ms).attr 8 (All-head IsTotals m ms limits).eight (eight_of_all ms (All-tail IsTotals m ms limits))
+sums_of_one_more : (m n : Totals) → HasEachSum m → HasEachSum n → HasEachSum (together m n)
+sums_of_one_more m n p q = record { three = refl; eight = length-sums m.attr n.attr 8 p.eight q.eight }
+
+sums_of_all : (ms : List Totals) → All IsTotals ms → HasEachSum (all_together ms)
+sums_of_all [] limits = each_sum []
+sums_of_all (m ∷ ms) limits =
+    let here = All-head IsTotals m ms limits in
+    sums_of_one_more m (all_together ms) (record { three = here.three; eight = here.eight }) (sums_of_all ms (All-tail IsTotals m ms limits))
 
 -- the limits of them all
-IsTotals-all : (ms : List Totals) → particle_count ms ≤ 65536 → All IsTotals ms → IsTotals (all_together ms)
-IsTotals-all [] few limits = IsTotals-none
-IsTotals-all (m ∷ ms) few limits =
-    let cons = sum_by-cons (λ (t : Totals). t.count) m ms in
-    let count = counted ms in
-    IsTotals-together m (all_together ms) (omega arith) (All-head IsTotals m ms limits) (IsTotals-all ms (omega arith) (All-tail IsTotals m ms limits))
+module _ (keep : MomentsKeepTheirLimits) (join : JoinedMomentsKeepTheirLimits) where
+  IsTotals-all : (ms : List Totals) → particle_count ms ≤ 65536 → All IsTotals ms → IsTotals (all_together ms)
+  IsTotals-all [] few limits = keep [] (omega arith) (All-nil IsParticle)
+  IsTotals-all (m ∷ ms) few limits =
+      let cons = sum_by-cons (λ (t : Totals). t.count) m ms in
+      let count = counted ms in
+      join m (all_together ms) (omega arith) (All-head IsTotals m ms limits) (IsTotals-all ms (omega arith) (All-tail IsTotals m ms limits))
 
-pub part_limits : (ms : List Totals) (i n : ℕ) → particle_count ms ≤ 65536 → All IsTotals ms → IsTotals (all_together (take n (drop i ms)))
-part_limits ms i n few limits =
-    let part = sum_by-take-le (λ (t : Totals). t.count) (drop i ms) n in
-    let rest = sum_by-take-drop (λ (t : Totals). t.count) ms i in
-    IsTotals-all (take n (drop i ms)) (omega arith) (All-take IsTotals n (drop i ms) (All-drop IsTotals i ms limits))
-
--- what makes one moment with another is told by both
-
-three_numbers : (ws : List ℕ) → length ws ≡ 3 → ws ≡ get_or ws 0 0 ∷ get_or ws 1 0 ∷ get_or ws 2 0 ∷ []
-three_numbers [] e = absurd (omega arith)
-three_numbers (a ∷ []) e = absurd (omega arith)
-three_numbers (a ∷ b ∷ []) e = absurd (omega arith)
-three_numbers (a ∷ b ∷ c ∷ []) e = refl
-three_numbers (a ∷ b ∷ c ∷ d ∷ ws) e = absurd (omega arith)
-
-sums_cancel : (xs ys zs : List ℤ) → length xs ≡ length ys → length xs ≡ length zs → pairwise_sums xs ys ≡ pairwise_sums xs zs → ys ≡ zs
-sums_cancel [] [] [] e f same = refl
-sums_cancel [] [] (z ∷ zs) e f same = absurd (omega arith)
-sums_cancel [] (y ∷ ys) zs e f same = absurd (omega arith)
-sums_cancel (x ∷ xs) [] zs e f same = absurd (omega arith)
-sums_cancel (x ∷ xs) (y ∷ ys) [] e f same = absurd (omega arith)
-sums_cancel (x ∷ xs) (y ∷ ys) (z ∷ zs) e f same =
-    let head : x +ℤ y ≡ x +ℤ z = ap (λ (l : List ℤ). get_or l 0 (pos 0)) same in
-    let first : y ≡ z = omega (arith, ints) in
-    let rest = sums_cancel xs ys zs (omega arith) (omega arith) (ap (λ (l : List ℤ). drop 1 l) same) in
-    λ i. first i ∷ rest i
-
-pub cancel : (b r s : Totals) → length b.attr ≡ 8 → length r.attr ≡ 8 → length s.attr ≡ 8 → length r.weighted ≡ 3 → length s.weighted ≡ 3 → together b r ≡ together b s → r ≡ s
-cancel b r s b8 r8 s8 r3 s3 same =
-    let counts = ap (λ (t : Totals). t.count) same in
-    let count : r.count ≡ s.count = omega arith in
-    let masses = ap (λ (t : Totals). t.mass) same in
-    let mass : r.mass ≡ s.mass = omega arith in
-    let sums : (k : ℕ) → k < 3 → get_or (together b r).weighted k 0 ≡ get_or (together b s).weighted k 0 = λ k less. ap (λ (t : Totals). get_or t.weighted k 0) same in
-    let w0 : get_or r.weighted 0 0 ≡ get_or s.weighted 0 0 = (let h = sums 0 (omega arith) in omega arith) in
-    let w1 : get_or r.weighted 1 0 ≡ get_or s.weighted 1 0 = (let h = sums 1 (omega arith) in omega arith) in
-    let w2 : get_or r.weighted 2 0 ≡ get_or s.weighted 2 0 = (let h = sums 2 (omega arith) in omega arith) in
-    let weighted : r.weighted ≡ s.weighted = three_numbers r.weighted r3 ∙ (λ i. w0 i ∷ w1 i ∷ w2 i ∷ []) ∙ sym (three_numbers s.weighted s3) in
-    let attr = sums_cancel b.attr r.attr s.attr (b8 ∙ sym r8) (b8 ∙ sym s8) (ap (λ (t : Totals). t.attr) same) in
-    λ i. record { count = count i; mass = mass i; weighted = weighted i; attr = attr i }
+  pub part_limits : (ms : List Totals) (i n : ℕ) → particle_count ms ≤ 65536 → All IsTotals ms → IsTotals (all_together (take n (drop i ms)))
+  part_limits ms i n few limits =
+      let part = sum_by-take-le (λ (t : Totals). t.count) (drop i ms) n in
+      let rest = sum_by-take-drop (λ (t : Totals). t.count) ms i in
+      IsTotals-all (take n (drop i ms)) (omega arith) (All-take IsTotals n (drop i ms) (All-drop IsTotals i ms limits))
 
 -- the first n of the sums
 abbrev pub first_sums : List Totals → ℕ → List Totals
@@ -125,13 +92,13 @@ sum_makes join ms sums i n through before is within at_end at_start =
     at_end ∙ at_sum ms sums (i + n) through is within ∙ ap all_together (take-add i n ms) ∙ all-append join (take i ms) (take n (drop i ms))
     ∙ ap (λ (t : Totals). together t (all_together (take n (drop i ms)))) (sym before_is)
 
--- the numbers that each of them has
-pub eight_of_part : (ms : List Totals) (i n : ℕ) → All IsTotals ms → length (all_together (take n (drop i ms))).attr ≡ 8
-eight_of_part ms i n limits = eight_of_all (take n (drop i ms)) (All-take IsTotals n (drop i ms) (All-drop IsTotals i ms limits))
+-- the sums that each of them has
+pub sums_of_part : (ms : List Totals) (i n : ℕ) → All IsTotals ms → HasEachSum (all_together (take n (drop i ms)))
+sums_of_part ms i n limits = sums_of_all (take n (drop i ms)) (All-take IsTotals n (drop i ms) (All-drop IsTotals i ms limits))
 
-pub eight_before : (ms sums : List Totals) (i : ℕ) (before : Totals) → All IsTotals ms → sums ≡ prefix_sums ms → i < length sums → before ≡ get_or sums i before → length before.attr ≡ 8
-eight_before ms sums i before limits is within at =
-    ap (λ (t : Totals). length t.attr) (at ∙ at_sum ms sums i before is within) ∙ eight_of_all (take i ms) (All-take IsTotals i ms limits)
+pub sums_before : (ms sums : List Totals) (i : ℕ) (before : Totals) → All IsTotals ms → sums ≡ prefix_sums ms → i < length sums → before ≡ get_or sums i before → HasEachSum before
+sums_before ms sums i before limits is within at =
+    subst HasEachSum (sym (at ∙ at_sum ms sums i before is within)) (sums_of_all (take i ms) (All-take IsTotals i ms limits))
 
 -- one moment more
 

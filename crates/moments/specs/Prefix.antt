@@ -4,7 +4,7 @@ use Rattle.std.specs.List.{range_with_len}
 use Rattle.pf_model.specs.declared.limits.TheConstants.{MOST_PARTICLES}
 use Rattle.pf_model.specs.Particle.{Particle}
 use Rattle.pf_model.specs.Totals.{Totals, IsTotals}
-use Rattle.pf_model.specs.Sums.{moment_of, together}
+use Rattle.pf_model.specs.Sums.{moment_of, all_together}
 
 -- the moments of the first particles, for each count of them from none to all
 abbrev pub prefix_moments : List Particle → List Totals
@@ -13,11 +13,6 @@ prefix_moments js = map (λ k. moment_of (take k js)) (range_with_len 0 (length 
 -- the moment of this one particle keeps the limits
 abbrev pub HasLimitedMoment : Particle → Type 0
 HasLimitedMoment j = IsTotals (moment_of (j ∷ []))
-
--- some moments added up
-abbrev pub all_together : List Totals → Totals
-all_together [] = moment_of []
-all_together (m ∷ ms) = together m (all_together ms)
 
 -- the sums of the first of these moments, for each count of them from none to all
 abbrev pub prefix_sums : List Totals → List Totals

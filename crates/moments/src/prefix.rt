@@ -1,10 +1,13 @@
 ghost use Rattle.std.specs.Prelude.{◌≡◌, ◌+◌, ◌≤◌, ◌<◌, List, [], ◌∷◌, length, take, drop, All, IfOk};
 ghost use Rattle.pf_model.specs.Particle.{Particle};
 ghost use Rattle.pf_model.specs.Totals.{Totals, IsTotals};
-ghost use Rattle.pf_model.specs.Sums.{moment_of};
-ghost use Rattle.moments.specs.Prefix.{prefix_moments, HasLimitedMoment, all_together, prefix_sums, particle_count};
+ghost use Rattle.pf_model.specs.Sums.{moment_of, all_together};
+ghost use Rattle.moments.specs.Prefix.{prefix_moments, HasLimitedMoment, prefix_sums, particle_count};
 
-use model_laws::{moments_add_up, moments_join_in_any_order};
+use model_laws::{
+    joined_moments_keep_their_limits, moments_add_up, moments_cancel, moments_join_in_any_order,
+    moments_keep_their_limits,
+};
 use pf_model::{Body, MOST_PARTICLES, Moment};
 use pf_num::OutOfMemory;
 use std::alloc::Global;
@@ -60,7 +63,10 @@ impl Prefix {
             → result ≡ all_together (take len (drop first ms)) }
     {
         moments_add_up();
+        moments_cancel();
         moments_join_in_any_order();
+        moments_keep_their_limits();
+        joined_moments_keep_their_limits();
         let before = self.moments[first as usize];
         let through = self.moments[(first + len) as usize];
         through.without(before)

@@ -1,12 +1,8 @@
 -- The least number that passes a test.
-use Rattle.std.proofs.Common.{◌≡◌, ℕ, zero, suc, ◌<◌, Bool, true, false, cond, Option, Some, None, inl, inr, refl, ◌∙◌, ap, arith}
+use Rattle.std.proofs.Common.{◌≡◌, ℕ, zero, suc, ◌<◌, Bool, true, false, cond, Option, Some, None, inl, inr, refl, ◌∙◌, ap, subst, arith}
 use Rattle.std.proofs.lemmas.Bool.{cond_both, cases_order, both_ways}
 use Rattle.order_laws.specs.Order.{first_some, least_below}
-
--- the answer is the least below n, or there is none
-abbrev pub IsLeast : (ℕ → Bool) → ℕ → Option ℕ → Type 0
-IsLeast test n None = (i : ℕ) → i < n → test i ≡ false
-IsLeast test n (Some k) = (k < n) × (test k ≡ true) × ((i : ℕ) → i < k → test i ≡ false)
+use Rattle.order_laws.specs.OrderLaws.{IsLeast, LeastNumbersAreLeast}
 
 none_more : (test : ℕ → Bool) (n : ℕ) → IsLeast test n None → test n ≡ false → IsLeast test (suc n) None
 none_more test n none here i below =
@@ -36,3 +32,7 @@ same_least test n (Some a) (Some b) h k =
 
 pub least_below-from_IsLeast : (test : ℕ → Bool) (n : ℕ) (o : Option ℕ) → IsLeast test n o → least_below test n ≡ o
 least_below-from_IsLeast test n o h = same_least test n (least_below test n) o (IsLeast-least_below test n) h
+
+pub least_numbers_are_least : LeastNumbersAreLeast
+least_numbers_are_least test n o =
+    (λ e. subst (IsLeast test n) e (IsLeast-least_below test n), λ h. least_below-from_IsLeast test n o h)

@@ -2,7 +2,12 @@
 // proof needs a law calls its function.
 
 ghost use Rattle.order_laws.specs.OrderLaws.{ListsInOrderAreOne, RisingListsAreOne, DistinctKeysRise, SortsByKeyAreOne};
-ghost use Rattle.order_laws.specs.OrderLaws.{MapsKeepOrders, OrdersAreShort};
+ghost use Rattle.order_laws.specs.OrderLaws.{MapsKeepOrders, OrdersAreShort, LeastNumbersAreLeast};
+
+/// The least number below another that passes a test passes it, and no lower one does; where there is none, none passes.
+pub fn least_numbers_are_least()
+    ensures { LeastNumbersAreLeast }
+{}
 
 /// Elements in whatever order have one list in which each comes before all later ones.
 pub fn lists_in_order_are_one<X>()

@@ -5,7 +5,8 @@ use Rattle.pf_geom.specs.Position.{Position}
 use Rattle.pf_geom.specs.Octant.{cell_at}
 use Rattle.pf_model.specs.Particle.{Particle}
 use Rattle.pf_model.specs.Group.{particles_in, group_level}
-use Rattle.order_laws.proofs.LeastLemmas.{IsLeast, least_below-from_IsLeast, IsLeast-least_below}
+use Rattle.order_laws.specs.OrderLaws.{IsLeast}
+use Rattle.order_laws.proofs.LeastLemmas.{least_below-from_IsLeast, IsLeast-least_below}
 
 -- whether the position's cell at a level has no more of the particles than the limit
 abbrev pub is_few_at : ℕ → List Particle → Position → ℕ → Bool

@@ -6,7 +6,8 @@ use Rattle.pf_geom.specs.Bounds.{Bounds}
 use Rattle.pf_geom.specs.Octant.{Octant, cell_at}
 use Rattle.pf_model.specs.Criterion.{Criterion, Passes}
 use Rattle.pf_model.specs.Interaction.{passes, level_of}
-use Rattle.order_laws.proofs.LeastLemmas.{IsLeast, least_below-from_IsLeast}
+use Rattle.order_laws.specs.OrderLaws.{IsLeast}
+use Rattle.order_laws.proofs.LeastLemmas.{least_below-from_IsLeast}
 
 pub test-from_Passes : (box : Bounds) (c : Octant) (t : Criterion) → Passes box c t → passes box c t ≡ true
 test-from_Passes box c t h = le-leb _ _ h

@@ -1,11 +1,11 @@
 -- Which items lie in an entry, and what entries stand for together.
-use Rattle.std.specs.Prelude.{Bool, false, ◌&&◌, List, [], ◌∷◌, filter}
+use Rattle.std.specs.Prelude.{Bool, false, ◌&&◌, List, [], ◌∷◌, map, filter}
 use Rattle.std.specs.Prelude.{nat_le, nat_eq}
 use Rattle.pf_geom.specs.Octant.{cell_at, ancestor_at}
 use Rattle.pf_model.specs.declared.entry.Entry.{Entry}
 use Rattle.pf_model.specs.declared.entry.Entry.TheVariants.{Cell, One}
 use Rattle.pf_model.specs.Totals.{Totals}
-use Rattle.pf_model.specs.Sums.{moment_of, together}
+use Rattle.pf_model.specs.Sums.{moment_of, all_together}
 use Rattle.pf_model.specs.Interaction.{is_cell}
 
 -- whether an item lies in an entry: in its cell, or as the entry itself
@@ -26,5 +26,4 @@ entry_moment (One p) = moment_of (p ∷ [])
 
 -- the moments of entries added up
 abbrev pub moment_together : List Entry → Totals
-moment_together [] = moment_of []
-moment_together (e ∷ es) = together (entry_moment e) (moment_together es)
+moment_together es = all_together (map entry_moment es)

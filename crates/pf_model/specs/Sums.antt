@@ -46,6 +46,11 @@ together m n =
       attr = pairwise_sums m.attr n.attr;
     }
 
+-- some moments added up
+abbrev pub all_together : List Totals → Totals
+all_together [] = moment_of []
+all_together (m ∷ ms) = together m (all_together ms)
+
 -- the differences of two lists, place by place
 abbrev pub pairwise_differences : List ℤ → List ℤ → List ℤ
 pairwise_differences [] bs = []

@@ -1,7 +1,7 @@
 use Rattle.std.proofs.Common.{◌≡◌, ◌+◌, take}
 use Rattle.std.specs.List.{All}
 use Rattle.pf_model.specs.Totals.{IsTotals}
-use Rattle.moments.specs.Prefix.{all_together}
+use Rattle.pf_model.specs.Sums.{all_together}
 use Rattle.moments.proofs.SumLemmas.{first_sums}
 use Rattle.moments.proofs.prefix.fill_over.Given as goal
 

@@ -1,9 +1,9 @@
 use Rattle.std.proofs.Common.{◌+◌, ◌<◌, List, length, take, drop, ◌∙◌, ap, sym, arith}
 use Rattle.pf_model.specs.Totals.{Totals}
-use Rattle.pf_model.specs.Sums.{moment_of, IsRest}
-use Rattle.moments.specs.Prefix.{all_together}
-use Rattle.moments.proofs.PrefixLemmas.{range_makes, three_weighted, eight_attributes}
-use Rattle.moments.proofs.SumLemmas.{sums_length, sum_makes, part_limits, cancel, three_of_all, eight_of_part, eight_before}
+use Rattle.pf_model.specs.Sums.{all_together, moment_of, IsRest}
+use Rattle.model_laws.specs.MomentLaws.{HasEachSum}
+use Rattle.moments.proofs.PrefixLemmas.{range_makes, each_sum}
+use Rattle.moments.proofs.SumLemmas.{sums_length, sum_makes, part_limits, sums_of_part, sums_before}
 use Rattle.moments.proofs.prefix.Prefix.range.Goals as goal
 
 pub overflow_add-first : goal.overflow_add-first
@@ -22,7 +22,7 @@ without-requires c =
     let inside : c.args.first + c.args.len < length sums = (let same = ap (λ (ts : List Totals). length ts) c.self.view_is in let h = c.requires in omega arith) in (
       all_together (take c.args.len (drop c.args.first ms)),
       record {
-        limits = part_limits ms c.args.first c.args.len is.few_particles is.limits;
+        limits = part_limits c.moments_keep_their_limits.ensures c.joined_moments_keep_their_limits.ensures ms c.args.first c.args.len is.few_particles is.limits;
         makes = sum_makes c.moments_join_in_any_order.ensures ms sums c.args.first c.args.len _ _ is.summed inside c.index-through.ensures c.index-before.ensures;
       },
     )
@@ -38,16 +38,17 @@ returns c =
     let through : Totals = c.index-through.result.now in
     let inside : first + len < length sums = (let same = ap (λ (ts : List Totals). length ts) c.self.view_is in let h = c.requires in omega arith) in
     let part = all_together (take len (drop first ms)) in
-    let limits = part_limits ms first len is.few_particles is.limits in
+    let limits = part_limits c.moments_keep_their_limits.ensures c.joined_moments_keep_their_limits.ensures ms first len is.few_particles is.limits in
     let makes = sum_makes c.moments_join_in_any_order.ensures ms sums first len through before is.summed inside c.index-through.ensures c.index-before.ensures in
     let rest : IsRest through before part = record { limits = limits; makes = makes } in
     let found = c.without.ensures part rest in
-    let eight = eight_before ms sums first before is.limits is.summed (omega arith) c.index-before.ensures in
+    let has = sums_before ms sums first before is.limits is.summed (omega arith) c.index-before.ensures in
+    let left : HasEachSum part = record { three = limits.three; eight = limits.eight } in
     record {
       bodies = λ js e.
           let other = range_makes c.moments_add_up.ensures js sums first len through before (c.self.view_is ∙ e) inside c.index-through.ensures c.index-before.ensures in
-          found ∙ cancel before part (moment_of (take len (drop first js))) eight limits.eight (eight_attributes (take len (drop first js))) limits.three (three_weighted (take len (drop first js))) (sym makes ∙ other);
+          found ∙ c.moments_cancel.ensures before part (moment_of (take len (drop first js))) has left (each_sum (take len (drop first js))) (sym makes ∙ other);
       moments = λ ns e each.
           let other = sum_makes c.moments_join_in_any_order.ensures ns sums first len through before (c.self.view_is ∙ e) inside c.index-through.ensures c.index-before.ensures in
-          found ∙ cancel before part (all_together (take len (drop first ns))) eight limits.eight (eight_of_part ns first len each) limits.three (three_of_all (take len (drop first ns))) (sym makes ∙ other);
+          found ∙ c.moments_cancel.ensures before part (all_together (take len (drop first ns))) has left (sums_of_part ns first len each) (sym makes ∙ other);
     }
