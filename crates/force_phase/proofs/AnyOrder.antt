@@ -16,8 +16,8 @@ use Rattle.group_lists.specs.Whole.{GroupList}
 use Rattle.run_model.specs.declared.fault.Fault.{Fault}
 use Rattle.run_model.specs.Force.{force_row}
 use Rattle.force_phase.specs.declared.phase.IdRow.{IdRow}
-use Rattle.force_phase.specs.declared.phase.PhaseFault.{PhaseFault}
-use Rattle.force_phase.specs.declared.phase.PhaseFault.TheVariants.{Numeric, Memory}
+use Rattle.run_model.specs.declared.fault.PhaseFault.{PhaseFault}
+use Rattle.run_model.specs.declared.fault.PhaseFault.TheVariants.{Numeric, Memory}
 use Rattle.force_phase.specs.Found.{AreInOrderOfId}
 use Rattle.force_phase.specs.Phase.{bodies_in, rows_in, rows_by_id, fault_of, faults_in, StopsPhase}
 use Rattle.force_phase.specs.Working.{groups_at}

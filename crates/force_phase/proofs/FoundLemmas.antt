@@ -18,8 +18,8 @@ use Rattle.run_model.specs.declared.fault.Fault.{Fault}
 use Rattle.run_model.specs.declared.fault.What.{What}
 use Rattle.run_model.specs.Force.{force_row, force_fault}
 use Rattle.force_phase.specs.declared.phase.IdRow.{IdRow}
-use Rattle.force_phase.specs.declared.phase.PhaseFault.{PhaseFault}
-use Rattle.force_phase.specs.declared.phase.PhaseFault.TheVariants.{Numeric, Memory}
+use Rattle.run_model.specs.declared.fault.PhaseFault.{PhaseFault}
+use Rattle.run_model.specs.declared.fault.PhaseFault.TheVariants.{Numeric, Memory}
 use Rattle.force_phase.specs.Forces.{AreForces}
 use Rattle.force_phase.specs.declared.partner.Partner.{Partner}
 use Rattle.force_phase.specs.Partner.{partner_of}

@@ -5,8 +5,8 @@ use Rattle.order_laws.specs.Order.{in_order_once}
 use Rattle.pf_model.specs.Particle.{Particle}
 use Rattle.run_model.specs.declared.fault.Fault.{Fault}
 use Rattle.force_phase.specs.declared.phase.IdRow.{IdRow}
-use Rattle.force_phase.specs.declared.phase.PhaseFault.{PhaseFault}
-use Rattle.force_phase.specs.declared.phase.PhaseFault.TheVariants.{Numeric, Memory}
+use Rattle.run_model.specs.declared.fault.PhaseFault.{PhaseFault}
+use Rattle.run_model.specs.declared.fault.PhaseFault.TheVariants.{Numeric, Memory}
 
 -- the forces on those without a fault, in the order of their groups, and the least fault by id
 pub record FoundSoFar : Type 0 where

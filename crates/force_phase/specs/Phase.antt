@@ -9,8 +9,8 @@ use Rattle.run_model.specs.declared.fault.Fault.{Fault}
 use Rattle.run_model.specs.Force.{force_row, force_fault}
 use Rattle.force_phase.specs.Found.{in_order_of_id}
 use Rattle.force_phase.specs.declared.phase.IdRow.{IdRow}
-use Rattle.force_phase.specs.declared.phase.PhaseFault.{PhaseFault}
-use Rattle.force_phase.specs.declared.phase.PhaseFault.TheVariants.{Numeric, Memory}
+use Rattle.run_model.specs.declared.fault.PhaseFault.{PhaseFault}
+use Rattle.run_model.specs.declared.fault.PhaseFault.TheVariants.{Numeric, Memory}
 
 -- the particles of all groups
 abbrev pub bodies_in : List GroupList → List Particle

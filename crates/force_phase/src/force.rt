@@ -10,7 +10,6 @@ ghost use Rattle.force_phase.specs.Partner.{is_another, pairs_by, partner_of};
 use crate::gathered::{clear, gather, nothing_yet};
 use crate::partner::Partner;
 use crate::row::row;
-use crate::seen::{exerted, received};
 use crate::tally::Tally;
 use kern_meaning::{Scratch, for_kernel, pair};
 use kern_token::Name;
@@ -18,7 +17,7 @@ use kern_types::{Typed, forces, forces_and_slots_are_few, kernel, slots, targets
 use pf_geom::Edge;
 use pf_model::{Body, MOST_PARTICLES};
 use pf_num::OutOfMemory;
-use run_model::What;
+use run_model::{What, exerted, received};
 use std::alloc::Global;
 
 /// What is kept for the pairs of a kernel.

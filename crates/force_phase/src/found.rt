@@ -2,10 +2,10 @@ ghost use Rattle.std.specs.Prelude.{◌≡◌, ◌++◌, OnOk, IfOk, IfErr, None
 ghost use Rattle.std.specs.List.{IsDistinct};
 ghost use Rattle.force_phase.specs.Found as rules;
 
-use crate::phase::{IdRow, PhaseFault};
+use crate::phase::IdRow;
 use order_laws::distinct_keys_rise;
 use pf_model::Body;
-use run_model::{Fault, Row};
+use run_model::{Fault, PhaseFault, Row};
 use std::alloc::{AllocError, Global};
 use std::marker::Model;
 

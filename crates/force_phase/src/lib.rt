@@ -10,7 +10,6 @@ mod numbered;
 mod partner;
 mod phase;
 mod row;
-mod seen;
 mod share;
 mod tally;
 mod together;
@@ -18,4 +17,5 @@ mod worker;
 
 pub use force::{Work, work_for};
 pub use group_out::{GroupOut, Outcome, evaluate, out_for};
-pub use phase::{Claims, IdRow, PhaseFault, PhaseOut, forces};
+pub use phase::{Claims, IdRow, PhaseOut, forces};
+pub use run_model::PhaseFault;

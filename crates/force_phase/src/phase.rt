@@ -18,7 +18,7 @@ use pf_geom::Edge;
 use pf_io::Gate;
 use pf_model::Body;
 use pf_num::OutOfMemory;
-use run_model::{Fault, Row};
+use run_model::{Fault, PhaseFault, Row};
 use std::alloc::{AllocError, Global};
 use std::thread::Threads;
 
@@ -41,37 +41,6 @@ pub struct Claims {
 pub struct PhaseOut {
     pub rows: Vec<IdRow>,
     pub claims: Vec<Claims>,
-}
-
-/// Why particles have no forces.
-#[derive(Clone, Copy, Debug, PartialEq, Eq)]
-pub enum PhaseFault {
-    /// The least fault by id.
-    Numeric(Fault),
-    /// Memory ran out.
-    Memory,
-}
-
-impl From<AllocError> for PhaseFault {
-    ghost use Rattle.std.specs.Prelude.{◌≡◌};
-    ghost use Rattle.force_phase.specs.declared.phase.PhaseFault.TheVariants.{Memory};
-
-    ghost from_gives = { λ _ fault. fault ≡ Memory };
-
-    fn from(_error: AllocError) -> PhaseFault {
-        PhaseFault::Memory
-    }
-}
-
-impl From<OutOfMemory> for PhaseFault {
-    ghost use Rattle.std.specs.Prelude.{◌≡◌};
-    ghost use Rattle.force_phase.specs.declared.phase.PhaseFault.TheVariants.{Memory};
-
-    ghost from_gives = { λ _ fault. fault ≡ Memory };
-
-    fn from(_error: OutOfMemory) -> PhaseFault {
-        PhaseFault::Memory
-    }
 }
 
 /// The forces on the particles of all groups, of all ranks, by ascending id, found by workers that are numbered from 0.

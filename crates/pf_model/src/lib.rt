@@ -25,7 +25,7 @@ pub use item::Item;
 pub use least_box::box_of;
 pub use limits::{MOST_GROUP, MOST_PARTICLES, MOST_RANKS};
 pub use moment::Moment;
-pub use plain_group::slow_group;
+pub use plain_group::{slow_group, slow_group_cell, slow_group_cells, slow_members};
 pub use plain_list::slow_list;
 pub use steps::Steps;
 pub use terms::{Build, Terms};

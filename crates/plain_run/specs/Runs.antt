@@ -16,11 +16,7 @@ use Rattle.run_model.specs.Text.{cells_in, particles_within}
 use Rattle.run_model.specs.Force.{first_given, force_row}
 use Rattle.run_model.specs.Run.{Stop, WithForces, State}
 use Rattle.run_model.specs.Run as runs
-use Rattle.run_moves.specs.declared.fault.MovesFault.{MovesFault}
-use Rattle.run_moves.specs.declared.fault.MovesFault.TheVariants as moves
 use Rattle.plain_run.specs.Lists.{HaveOneOrder}
-use Rattle.plain_run.specs.declared.stop.SlowStop.{SlowStop}
-use Rattle.plain_run.specs.declared.stop.SlowStop.TheVariants.{Numeric, Lists, Memory}
 
 -- what each setup keeps: few particles of distinct ids, and a build at least at the start
 pub record IsRunnable (particles : List Particle) (reuse : ℕ) : Type 0 where
@@ -31,17 +27,6 @@ pub record IsRunnable (particles : List Particle) (reuse : ℕ) : Type 0 where
 pub record IsStill (bodies : List WithForces) (built : List Particle) : Type 0 where
   pub few : AreBodies built
   pub same : HaveOneOrder built (map (λ b. b.body) bodies)
-
--- this is the first fault, or memory ran out
-abbrev pub StopsAt : Option Stop → SlowStop → Type 0
-StopsAt first (Numeric fault) = first ≡ Some (runs.Numeric fault)
-StopsAt first (Lists count) = first ≡ Some (runs.Lists count)
-StopsAt first Memory = Unit {0}
-
--- the fault of the moves as that of the step
-abbrev pub of_moves : MovesFault → SlowStop
-of_moves (moves.Numeric fault) = Numeric fault
-of_moves moves.Memory = Memory
 
 -- the counts of a rank, by what decides on them
 abbrev pub counts_by : Division → Criterion → ℕ → List Particle → ℕ → RankLine

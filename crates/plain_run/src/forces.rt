@@ -14,7 +14,6 @@ ghost use Rattle.kern_tree.specs.declared.kernel.Combine.TheVariants.{Sum, Max, 
 ghost use Rattle.plain_run.specs.Forces.{IsForceStop, IsSumStop, numbers_along, axis_numbers};
 ghost use Rattle.plain_run.specs.Forces.{force_of, gives_to, slot_numbers, pairs_with, row_over, first_sum_fault};
 
-use crate::seen::{exerted, received};
 use kern_meaning::{PairFault, Scratch, for_kernel, pair, slot};
 use kern_token::Name;
 use kern_tree::{Combine, Kind};
@@ -23,7 +22,7 @@ use moments::item;
 use pf_geom::Edge;
 use pf_model::{Body, Entry, Item, Moment};
 use pf_num::OutOfMemory;
-use run_model::{Row, What};
+use run_model::{Row, What, exerted, received};
 use std::alloc::{AllocError, Global};
 
 // The least `i64`, and the first number past the greatest.

@@ -12,14 +12,11 @@ mod kept;
 mod listing;
 mod ordering;
 mod run;
-mod seen;
 mod setup;
 mod state;
-mod stop;
 
 pub use domains::{slow_domain_box, slow_owner};
 pub use essential::slow_essential;
 pub use forces::{ForceStop, slow_forces};
 pub use run::{slow_step, slow_text};
 pub use setup::RunSetup;
-pub use stop::SlowStop;

@@ -4,8 +4,7 @@ ghost use Rattle.pf_model.specs.Particles.{AreBodies};
 ghost use Rattle.pf_model.specs.Division.{IsDivision, rank_count};
 ghost use Rattle.pf_model.specs.EssentialTree.{essential_tree};
 ghost use Rattle.pf_model.specs.Groups.{groups_of_rank, group_with, group_list};
-ghost use Rattle.pf_model.specs.Reuse.{kept_group_list};
-ghost use Rattle.run_model.specs.Run.{as_built};
+ghost use Rattle.pf_model.specs.Reuse.{as_in, kept_group_list};
 ghost use Rattle.plain_run.specs.Lists.{HasMembers, HaveOneOrder};
 
 use crate::domains::{particles_of, slow_owner};
@@ -30,7 +29,7 @@ pub(crate) fn list_for(
     requires built { AreBodies built.now }
     requires same { HaveOneOrder built.now now.now }
     ensures value { IfOk result (λ entries. entries.items ≡ kept_group_list theta built.now now.now
-        (group_with limit grid built.now (as_built built.now i.now))) }
+        (group_with limit grid built.now (as_in built.now i.now))) }
     ensures some { IfOk result (λ entries. All HasMembers entries.items) }
 {
     let there = found(built, i);

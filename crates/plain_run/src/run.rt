@@ -3,18 +3,18 @@ ghost use Rattle.pf_model.specs.Particles.{AreBodies};
 ghost use Rattle.run_model.specs.Run.{state, first_fault};
 ghost use Rattle.run_model.specs.Text as rules;
 ghost use Rattle.plain_run.specs.Reaching.{IsReached};
-ghost use Rattle.plain_run.specs.Runs.{StopsAt, body_line_of};
+ghost use Rattle.plain_run.specs.Runs.{body_line_of};
+ghost use Rattle.run_model.specs.Answers.{StopsAt};
 
 use crate::counts::rank_lines;
 use crate::domains::slow_owner;
 use crate::kept::found;
 use crate::setup::RunSetup;
 use crate::state::{SlowState, after, start};
-use crate::stop::SlowStop;
 use dump_text::write_step;
 use pf_model::Body;
 use pf_num::OutOfMemory;
-use run_model::{BodyLine, Fault, Row, Sequence, StepText};
+use run_model::{BodyLine, Fault, Row, Sequence, StepFault, StepText};
 use run_moves::Forced;
 use std::alloc::{AllocError, Global};
 
@@ -33,7 +33,7 @@ pub(crate) enum Reached {
 
 /// The text of a step, by the definition. The text of a step that has no state, because an earlier one had a fault,
 /// is empty. `Numeric` and `Lists` exactly where that is the first fault of this very step. It serves tests.
-pub fn slow_text(alloc: Global, run: &RunSetup, step: u32) -> Result<Vec<u8>, SlowStop>
+pub fn slow_text(alloc: Global, run: &RunSetup, step: u32) -> Result<Vec<u8>, StepFault>
     ensures text { IfOk result (λ text. text.items ≡ rules.text run.now step) }
     ensures no_fault { OnOk result (first_fault run.now step ≡ None) }
     ensures fault { IfErr result (StopsAt (first_fault run.now step)) }
@@ -48,15 +48,15 @@ pub fn slow_text(alloc: Global, run: &RunSetup, step: u32) -> Result<Vec<u8>, Sl
 /// What the text of a step tells, by the definition: every step up to it is carried out. `None` exactly where an
 /// earlier step had a fault. `Numeric` and `Lists` exactly where that is the first fault of this very step. It serves
 /// tests.
-pub fn slow_step(alloc: Global, run: &RunSetup, step: u32) -> Result<Option<StepText>, SlowStop>
+pub fn slow_step(alloc: Global, run: &RunSetup, step: u32) -> Result<Option<StepText>, StepFault>
     ensures told { IfOk result (λ answer. answer ≡ option_map (rules.told run.now step) (state run.now step)) }
     ensures no_fault { OnOk result (first_fault run.now step ≡ None) }
     ensures fault { IfErr result (StopsAt (first_fault run.now step)) }
 {
     match reach(alloc, run, step)? {
         Reached::At(now) => Ok(Some(told(alloc, run, step, &now)?)),
-        Reached::Numeric(fault) => Err(SlowStop::Numeric(fault)),
-        Reached::Lists(count) => Err(SlowStop::Lists(count)),
+        Reached::Numeric(fault) => Err(StepFault::Numeric(fault)),
+        Reached::Lists(count) => Err(StepFault::Lists(count)),
         Reached::Past => Ok(None),
     }
 }
@@ -78,9 +78,9 @@ fn begun(alloc: Global, run: &RunSetup) -> Result<Reached, OutOfMemory>
 {
     match start(alloc, run) {
         Ok(now) => Ok(Reached::At(now)),
-        Err(SlowStop::Numeric(fault)) => Ok(Reached::Numeric(fault)),
-        Err(SlowStop::Lists(count)) => Ok(Reached::Lists(count)),
-        Err(SlowStop::Memory) => Err(OutOfMemory),
+        Err(StepFault::Numeric(fault)) => Ok(Reached::Numeric(fault)),
+        Err(StepFault::Lists(count)) => Ok(Reached::Lists(count)),
+        Err(StepFault::Memory) => Err(OutOfMemory),
     }
 }
 
@@ -100,9 +100,9 @@ fn advanced(
     };
     match after(alloc, run, step, &state) {
         Ok(now) => Ok(Reached::At(now)),
-        Err(SlowStop::Numeric(fault)) => Ok(Reached::Numeric(fault)),
-        Err(SlowStop::Lists(count)) => Ok(Reached::Lists(count)),
-        Err(SlowStop::Memory) => Err(OutOfMemory),
+        Err(StepFault::Numeric(fault)) => Ok(Reached::Numeric(fault)),
+        Err(StepFault::Lists(count)) => Ok(Reached::Lists(count)),
+        Err(StepFault::Memory) => Err(OutOfMemory),
     }
 }
 

@@ -4,20 +4,20 @@ ghost use Rattle.pf_model.specs.Groups.{all_groups, group_list};
 ghost use Rattle.run_model.specs.Force.{first_given};
 ghost use Rattle.run_model.specs.Run as rules;
 ghost use Rattle.plain_run.specs.Lists.{HaveOneOrder};
-ghost use Rattle.plain_run.specs.Runs.{StopsAt, build_fault, forces_and_kick_fault, later_fault};
+ghost use Rattle.plain_run.specs.Runs.{build_fault, forces_and_kick_fault, later_fault};
+ghost use Rattle.run_model.specs.Answers.{StopsAt};
 ghost use Rattle.plain_run.specs.Runs.{state_taken, forced_by};
 
 use crate::forces::{ForceStop, slow_forces};
 use crate::listing::{list_for, lists_of, rank_count};
 use crate::ordering::by_id;
 use crate::setup::RunSetup;
-use crate::stop::SlowStop;
 use model_laws::{
     groups_are_few, lists_are_short, orders_by_id_have_all, orders_by_id_have_distinct_ids,
 };
 use pf_model::{Body, Grid, Theta};
 use pf_num::OutOfMemory;
-use run_model::Fault;
+use run_model::{Fault, StepFault};
 use run_moves::{Forced, Motion, kick_again, moved};
 use std::alloc::{AllocError, Global};
 use std::marker::Model;
@@ -44,7 +44,7 @@ impl Model for SlowState {
 }
 
 // state(0), or its first fault: a build on the particles as read, and forces.
-pub(crate) fn start(alloc: Global, run: &RunSetup) -> Result<SlowState, SlowStop>
+pub(crate) fn start(alloc: Global, run: &RunSetup) -> Result<SlowState, StepFault>
     ensures state { IfOk result (λ now. now ≡ rules.state_at_start run.now) }
     ensures no_fault { OnOk result (rules.fault_at_start run.now ≡ None) }
     ensures fault { IfErr result (StopsAt (rules.fault_at_start run.now)) }
@@ -63,7 +63,7 @@ pub(crate) fn after(
     run: &RunSetup,
     step: u32,
     before: &SlowState,
-) -> Result<SlowState, SlowStop>
+) -> Result<SlowState, StepFault>
     ensures state { IfOk result (λ now. now ≡ rules.state_after run.now step before.now) }
     ensures no_fault { OnOk result (rules.fault_after run.now step before.now ≡ None) }
     ensures fault { IfErr result (StopsAt (rules.fault_after run.now step before.now)) }
@@ -80,7 +80,7 @@ fn after_moves(
     step: u32,
     before: &SlowState,
     now: &[Body],
-) -> Result<SlowState, SlowStop>
+) -> Result<SlowState, StepFault>
     requires { now.now ≡ rules.moved run.now before.now }
     ensures state { IfOk result (λ after. after ≡ rules.state_after run.now step before.now) }
     ensures no_fault { OnOk result (later_fault run.now step before.now ≡ None) }
@@ -97,7 +97,7 @@ fn built_at(
     step: u32,
     before: &SlowState,
     now: &[Body],
-) -> Result<Vec<Body>, SlowStop>
+) -> Result<Vec<Body>, StepFault>
     requires { now.now ≡ rules.moved run.now before.now }
     ensures built { IfOk result (λ built. built.items ≡ rules.built_at run.now step before.now) }
     ensures bodies { IfOk result (λ built. AreBodies built.items) }
@@ -124,7 +124,7 @@ fn taken(
     run: &RunSetup,
     built: Vec<Body>,
     now: &[Body],
-) -> Result<SlowState, SlowStop>
+) -> Result<SlowState, StepFault>
     requires built { AreBodies built.items }
     requires same { HaveOneOrder built.items now.now }
     ensures state { IfOk result (λ after. after ≡ state_taken run.now built.items now.now) }
@@ -143,7 +143,7 @@ fn with_forces(
     run: &RunSetup,
     built: &[Body],
     now: &[Body],
-) -> Result<Vec<Forced>, SlowStop>
+) -> Result<Vec<Forced>, StepFault>
     requires built { AreBodies built.now }
     requires same { HaveOneOrder built.now now.now }
     ensures forces { IfOk result (λ bodies. bodies.items ≡ rules.with_forces run.now built.now now.now) }
@@ -171,7 +171,7 @@ fn forced(
     built: &[Body],
     now: &[Body],
     i: &Body,
-) -> Result<Forced, SlowStop>
+) -> Result<Forced, StepFault>
     requires built { AreBodies built.now }
     requires same { HaveOneOrder built.now now.now }
     ensures forces { IfOk result (λ forced. forced ≡ forced_by run.now built.now now.now i.now) }
@@ -181,20 +181,20 @@ fn forced(
     let entries = list_for(alloc, run.grid, run.theta, run.group, built, now, i)?;
     match slow_forces(alloc, &run.kernel, run.theta.edge, &entries, i) {
         Ok(forces) => Ok(Forced { body: *i, forces }),
-        Err(ForceStop::Fault(what)) => Err(SlowStop::Numeric(Fault { id: i.id, what })),
-        Err(ForceStop::Memory) => Err(SlowStop::Memory),
+        Err(ForceStop::Fault(what)) => Err(StepFault::Numeric(Fault { id: i.id, what })),
+        Err(ForceStop::Memory) => Err(StepFault::Memory),
     }
 }
 
 // Whether the lists of a build have few enough entries.
-fn few_lists(alloc: Global, run: &RunSetup, built: &[Body]) -> Result<(), SlowStop>
+fn few_lists(alloc: Global, run: &RunSetup, built: &[Body]) -> Result<(), StepFault>
     requires { AreBodies built.now }
     ensures no_fault { OnOk result (rules.lists_fault run.now built.now ≡ None) }
     ensures fault { IfErr result (StopsAt (rules.lists_fault run.now built.now)) }
 {
     let count = entry_count(alloc, run.grid, run.theta, run.group, built)?;
     if count > MOST_ENTRIES {
-        return Err(SlowStop::Lists(count));
+        return Err(StepFault::Lists(count));
     }
     Ok(())
 }

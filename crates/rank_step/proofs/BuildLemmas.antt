@@ -24,7 +24,7 @@ use Rattle.model_laws.specs.GroupLaws.{GroupsIgnoreOrder, BoxesIgnoreOrder}
 use Rattle.pf_model.specs.Groups.{RankGroup, groups_of_rank, all_groups, group_list}
 use Rattle.pf_model.specs.Interaction.{is_cell, list_of}
 use Rattle.pf_model.specs.Particle.{Particle}
-use Rattle.pf_model.specs.Reuse.{kept_list}
+use Rattle.pf_model.specs.Reuse.{as_in, kept_list}
 use Rattle.model_laws.specs.ReuseLaws.{KeptListsBeginAsLists}
 use Rattle.morton_tree.specs.declared.group.Group.{Group}
 use Rattle.morton_tree.specs.declared.span.Span.{Span}
@@ -33,7 +33,7 @@ use Rattle.morton_tree.specs.Groups.{group_in, IsGroup}
 use Rattle.group_lists.specs.Gathering.{Gathering, IsWhole, gathered_count}
 use Rattle.group_lists.specs.Whole.{GroupList}
 use Rattle.run_model.specs.Setup.{Setup}
-use Rattle.run_model.specs.Run.{as_built, list_for, entry_count, lists_fault}
+use Rattle.run_model.specs.Run.{list_for, entry_count, lists_fault}
 use Rattle.run_model.specs.Run as stop
 use Rattle.run_model.specs.Text.{cells_in, particles_within, lists_of, ranks, rank_counts}
 use Rattle.run_model.specs.Text as texts
@@ -139,15 +139,15 @@ owned_among g js rank i member =
     )
 
 -- a particle of the build is what it was
-as_built-same : (js : List Particle) (i : Particle) → IsStrictlyIncreasing (map (λ p. p.id) js) → Contains js i → as_built js i ≡ i
-as_built-same js i up (k, within, is) =
+as_in-same : (js : List Particle) (i : Particle) → IsStrictlyIncreasing (map (λ p. p.id) js) → Contains js i → as_in js i ≡ i
+as_in-same js i up (k, within, is) =
     let all = all_now js js (ascend js up) refl in
     ap (as_now js) (sym is) ∙ sym (get_or-map (as_now js) js k i i within) ∙ ap (λ (l : List Particle). get_or l k i) all ∙ is
 
 list_for-owned : Laws → (u : Setup) (js : List Particle) (rank : ℕ) (i : Particle) → IsStrictlyIncreasing (map (λ p. p.id) js) → Contains (particles_of u.grid js rank) i → list_for u js js i ≡ list_of u.theta (box_of (group_of u.group (particles_of u.grid js rank) i)) js
 list_for-owned laws u js rank i up member =
     let owned = owned_among u.grid js rank i member in
-    ap (λ (b : Particle). kept_list u.theta (box_of (group_of u.group (particles_of u.grid js (owner u.grid js b.at)) b)) js js) (as_built-same js i up owned.0)
+    ap (λ (b : Particle). kept_list u.theta (box_of (group_of u.group (particles_of u.grid js (owner u.grid js b.at)) b)) js js) (as_in-same js i up owned.0)
     ∙ ap (λ (r : ℕ). kept_list u.theta (box_of (group_of u.group (particles_of u.grid js r) i)) js js) owned.1
     ∙ laws.kept u.theta (box_of (group_of u.group (particles_of u.grid js rank) i)) js (distinct-ascending js (ascend js up))
 

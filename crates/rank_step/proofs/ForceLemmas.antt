@@ -13,8 +13,8 @@ use Rattle.order_laws.specs.Order.{in_order_once}
 use Rattle.pf_model.specs.Particle.{Particle}
 use Rattle.group_lists.specs.Whole.{GroupList}
 use Rattle.force_phase.specs.declared.phase.IdRow.{IdRow}
-use Rattle.force_phase.specs.declared.phase.PhaseFault.{PhaseFault}
-use Rattle.force_phase.specs.declared.phase.PhaseFault.TheVariants as phase
+use Rattle.run_model.specs.declared.fault.PhaseFault.{PhaseFault}
+use Rattle.run_model.specs.declared.fault.PhaseFault.TheVariants as phase
 use Rattle.force_phase.specs.Phase.{StopsPhase, bodies_in, rows_in, rows_by_id, fault_of, faults_in}
 use Rattle.run_model.specs.declared.fault.Fault.{Fault}
 use Rattle.run_model.specs.declared.fault.What.{What}
@@ -22,7 +22,7 @@ use Rattle.run_model.specs.Force.{first_given, force_row, force_fault}
 use Rattle.run_model.specs.Setup.{Setup}
 use Rattle.run_model.specs.Run.{WithForces, Numeric, numeric, list_for, with_forces, forces_fault}
 use Rattle.rank_step.specs.Build.{AreListsOf}
-use Rattle.rank_step.specs.Answers.{StopsAt, of_phase}
+use Rattle.run_model.specs.Answers.{StopsAt, of_phase}
 use Rattle.rank_step.specs.Taken.{TakesFrom, with_row}
 use Rattle.rank_step.proofs.OrderLemmas.{Ascend, by_id-ascending, distinct-ascending, in_order-map}
 use Rattle.rank_step.proofs.FaultLemmas.{given_from, given_in, none_given, least_given, first_given-option_map}

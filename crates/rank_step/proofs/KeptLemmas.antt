@@ -28,7 +28,7 @@ use Rattle.let_inbox.specs.Sources.{others}
 use Rattle.pf_model.specs.EssentialTree.{essential_tree}
 use Rattle.run_model.specs.declared.step_text.RankLine.{RankLine}
 use Rattle.run_model.specs.Setup.{Setup}
-use Rattle.run_model.specs.Run.{as_built, list_for}
+use Rattle.run_model.specs.Run.{list_for}
 use Rattle.run_model.specs.Text.{cells_in, particles_within, lists_of, ranks, rank_counts}
 use Rattle.run_model.specs.Text as texts
 use Rattle.refresh_phase.specs.declared.phases.Refreshed.{Refreshed}
@@ -55,7 +55,7 @@ spanned_map f s js = ap (take s.len) (drop-map f s.first js) ∙ take-map f s.le
 
 module _ (laws : Laws) (u : Setup) (built now : List Particle) (rises : IsStrictlyIncreasing (map (λ p. p.id) built)) where
   -- a particle of the build is found again by what it is now
-  found_again : (j : Particle) → Contains built j → as_built built (as_in now j) ≡ j
+  found_again : (j : Particle) → Contains built j → as_in built (as_in now j) ≡ j
   found_again j (k, within, is) =
       let i = as_in now j in
       let id : i.id ≡ j.id = same_id now j in

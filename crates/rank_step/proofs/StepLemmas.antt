@@ -10,6 +10,7 @@ use Rattle.std.proofs.lemmas.List.{length-map, get_or-map}
 use Rattle.std.proofs.lemmas.List.Sorted.{length_permutation}
 use Rattle.kern_tree.specs.declared.kernel.Kernel.{Kernel}
 use Rattle.pf_geom.specs.declared.edge.Edge.{Edge}
+use Rattle.pf_model.specs.Reuse.{as_in}
 use Rattle.pf_model.specs.declared.limits.TheConstants.{MOST_GROUP, MOST_PARTICLES}
 use Rattle.pf_model.specs.Criterion.{Criterion}
 use Rattle.pf_model.specs.Division.{Division}
@@ -26,14 +27,15 @@ use Rattle.run_model.specs.declared.step_text.RankLine.{RankLine}
 use Rattle.run_model.specs.declared.step_text.StepText.{StepText}
 use Rattle.run_model.specs.Force.{acc_place, first_given, force_row}
 use Rattle.run_model.specs.Setup.{Setup}
-use Rattle.run_model.specs.Run.{WithForces, State, Stop, as_built, built_at, list_for, with_forces, moved_body, kicked_again, is_build, lists_fault, forces_fault, move_fault, kick_fault, fault_at_start, fault_after, state_at_start, state_after, unless_stopped, state, first_fault}
+use Rattle.run_model.specs.Run.{WithForces, State, Stop, built_at, list_for, with_forces, moved_body, kicked_again, is_build, lists_fault, forces_fault, move_fault, kick_fault, fault_at_start, fault_after, state_at_start, state_after, unless_stopped, state, first_fault}
 use Rattle.run_model.specs.Text.{told, ranks as all_ranks, rank_counts, body_row}
 use Rattle.rank_step.specs.declared.course.Course.{Course}
-use Rattle.rank_step.specs.declared.fault.StepFault.{StepFault}
-use Rattle.rank_step.specs.declared.fault.StepFault.TheVariants as faults
+use Rattle.run_model.specs.declared.fault.StepFault.{StepFault}
+use Rattle.run_model.specs.declared.fault.StepFault.TheVariants as faults
 use Rattle.rank_step.specs.declared.last_build.LastBuild.{LastBuild}
 use Rattle.run_moves.specs.declared.motion.Motion.{Motion}
-use Rattle.rank_step.specs.Answers.{StopsAt, StopsBy}
+use Rattle.rank_step.specs.Answers.{StopsBy}
+use Rattle.run_model.specs.Answers.{StopsAt}
 use Rattle.rank_step.specs.Build.{AreListsOf, BuildsBy, IsTooMany}
 use Rattle.rank_step.specs.LastBuild.{AreKeptSince, IsBuildOf, IsLastBefore, IsLastFor, built_from, owners_of}
 use Rattle.run_moves.specs.Moves.{MovesBy}
@@ -434,7 +436,7 @@ owners_by g built js = map (λ p. owner g built p.at) js
 
 -- the particles as they were at the build
 were : List Particle → List WithForces → List Particle
-were built bodies = map (λ b. as_built built b.body) bodies
+were built bodies = map (λ b. as_in built b.body) bodies
 
 were_now : (built : List Particle) (bodies : List WithForces) → were built bodies ≡ map (as_now built) (map (λ b. b.body) bodies)
 unfolding were
@@ -447,7 +449,7 @@ were_all built bodies up same = were_now built bodies ∙ all_now built (map (λ
 rows_are : (u : Setup) (built : List Particle) (bodies : List WithForces) → map (body_row u built) bodies ≡ map row_with (zip (owners_by u.grid built (were built bodies)) bodies)
 unfolding body_row row_by owners_by were
 rows_are u built [] = refl
-rows_are u built (b ∷ bs) = ap (λ rest. row_by b (owner u.grid built (as_built built b.body).at) ∷ rest) (rows_are u built bs)
+rows_are u built (b ∷ bs) = ap (λ rest. row_by b (owner u.grid built (as_in built b.body).at) ∷ rest) (rows_are u built bs)
 
 text_by : ℕ → List RankLine → List BodyLine → StepText
 text_by s lines rows = record { step = s; ranks = lines; rows = rows }

@@ -7,8 +7,8 @@ use Rattle.group_lists.specs.Whole.{GroupList}
 use Rattle.run_model.specs.Setup.{Setup}
 use Rattle.run_model.specs.Run.{list_for, lists_fault}
 use Rattle.run_model.specs.Run as stop
-use Rattle.rank_step.specs.declared.fault.StepFault.{StepFault}
-use Rattle.rank_step.specs.declared.fault.StepFault.TheVariants.{Numeric, Lists, Memory}
+use Rattle.run_model.specs.declared.fault.StepFault.{StepFault}
+use Rattle.run_model.specs.declared.fault.StepFault.TheVariants.{Numeric, Lists, Memory}
 
 -- a run that builds on this grid, by this criterion and this limit of a group
 pub record BuildsBy (g : Division) (t : Criterion) (limit : ℕ) (u : Setup) : Type 0 where

@@ -12,7 +12,6 @@ ghost use Rattle.rank_step.specs.Trees.{AreFinished, BeginAsKept};
 ghost use Rattle.tree_phase.specs.Trees.{AreArrivals, HaveGathered};
 ghost use Rattle.pf_model.specs.Division.{rank_count};
 
-use crate::fault::StepFault;
 use exchange::RankState;
 use group_lists::MOST_ENTRIES;
 use model_laws::{
@@ -23,6 +22,7 @@ use multisection::Domains;
 use pf_io::Gate;
 use pf_model::{Body, Build, Grid, MOST_GROUP, MOST_RANKS, Terms, Theta};
 use pf_num::OutOfMemory;
+use run_model::StepFault;
 use refresh_phase::builds_begin_as_kept;
 use std::alloc::Global;
 use std::marker::Brand;

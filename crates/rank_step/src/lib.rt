@@ -5,7 +5,6 @@
 
 mod build;
 mod course;
-mod fault;
 mod first_ranks;
 mod forces;
 mod held_now;
@@ -15,5 +14,5 @@ mod refreshing;
 mod told;
 mod world;
 
-pub use fault::StepFault;
+pub use run_model::StepFault;
 pub use world::{StepReport, World, WorldSetup};

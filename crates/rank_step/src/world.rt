@@ -12,7 +12,6 @@ ghost use Rattle.rank_step.specs.Told.{Reaches, groups_told};
 ghost use Rattle.rank_step.specs.Answers.{StopsBy};
 
 use crate::course::Course;
-use crate::fault::StepFault;
 use crate::first_ranks::first_ranks;
 use crate::forces::Taken;
 use crate::last_build::LastBuild;
@@ -23,7 +22,7 @@ use model_laws::{distinct_ids_ignore_order, orders_by_id_are_one};
 use pf_io::Gate;
 use pf_model::{Body, Grid, MOST_GROUP, Theta};
 use pf_num::OutOfMemory;
-use run_model::{Row, StepText};
+use run_model::{Row, StepFault, StepText};
 use run_moves::Forced;
 use std::alloc::{AllocError, Global};
 use std::marker::Model;

@@ -7,6 +7,7 @@ use Rattle.std.proofs.lemmas.Bool.{cond_both}
 use Rattle.std.proofs.lemmas.Bool.Decides.{nat_tests}
 use Rattle.std.proofs.lemmas.List.Elements.{Contains-get_or, All-contains}
 use Rattle.pf_geom.specs.declared.edge.Edge.TheVariants.{Open}
+use Rattle.pf_model.specs.Reuse.{as_in}
 use Rattle.pf_model.specs.declared.entry.Entry.TheVariants.{One}
 use Rattle.pf_model.specs.Criterion.{Criterion, IsCriterion}
 use Rattle.pf_model.specs.Division.{IsDivision, rank_count}
@@ -15,7 +16,7 @@ use Rattle.order_laws.specs.Order.{placed, first_some}
 use Rattle.pf_model.specs.Particle.{Particle, IsParticle}
 use Rattle.pf_model.specs.Particles.{by_id}
 use Rattle.run_model.specs.Force.{first_given, force_row, force_fault}
-use Rattle.run_model.specs.Run.{WithForces, Stop, Lists, numeric, as_built, list_for, lists_fault, forces_fault, with_forces, state, fault_at_start, state_at_start, unless_stopped}
+use Rattle.run_model.specs.Run.{WithForces, Stop, Lists, numeric, list_for, lists_fault, forces_fault, with_forces, state, fault_at_start, state_at_start, unless_stopped}
 use Rattle.run_model.specs.RunLaws.{LoneRanksBuildSo}
 use Rattle.run_model.specs.StepText.{step_text}
 use Rattle.run_model.specs.Text.{rank_counts, body_row, told}
@@ -79,7 +80,7 @@ thin_texts lone builds pulls stay differ keep u taker giver pull h =
     map_on (λ i. record { body = i; forces = force_row u.theta.edge u.kernel (list_for u js js i) i }) (λ i. record { body = i; forces = pulled js i }) js
     (λ i c n. record { body = i; forces = ((λ m. force_row (edge m) u.kernel (build.lists i c m) i) ∙ (pulled_at i c).0) n }) in
     let pulled_body : Particle → WithForces = λ i. record { body = i; forces = pulled js i } in
-    let row : (i : Particle) → body_row u js (pulled_body i) ≡ thin_row js i = λ i n. record { id = i.id; owner = alone.owners (as_built js i).at n; at = i.at; vel = i.vel; forces = pulled js i } in
+    let row : (i : Particle) → body_row u js (pulled_body i) ≡ thin_row js i = λ i n. record { id = i.id; owner = alone.owners (as_in js i).at n; at = i.at; vel = i.vel; forces = pulled js i } in
     let lines = ap (map (rank_counts u js)) alone.ranks ∙ ap (λ r. r ∷ []) build.counts in
     let rows = ap (map (body_row u js)) bodies ∙ rows_by (body_row u js) pulled_body (thin_row js) js row in
     ap (λ o. option_map_or (λ now. step_text (told u 0 now)) o []) here

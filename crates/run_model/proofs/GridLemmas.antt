@@ -9,10 +9,10 @@ use Rattle.pf_model.specs.Particle.{Particle, IsParticle}
 use Rattle.pf_model.specs.Particles.{by_id}
 use Rattle.pf_model.specs.Division.{Division, IsDivision}
 use Rattle.order_laws.specs.Order.{first_some, least_below}
-use Rattle.pf_model.specs.Reuse.{kept_list}
+use Rattle.pf_model.specs.Reuse.{as_in, kept_list}
 use Rattle.run_model.specs.Setup.{Setup}
 use Rattle.run_model.specs.Force.{first_given, force_row, force_fault}
-use Rattle.run_model.specs.Run.{WithForces, State, Stop, Lists, as_built, list_for, with_forces, moved, kicked_again, kick_fault, move_fault, lists_fault, forces_fault, numeric, is_build, built_at, fault_at_start, state_at_start, fault_after, state_after, unless_stopped, state, first_fault}
+use Rattle.run_model.specs.Run.{WithForces, State, Stop, Lists, list_for, with_forces, moved, kicked_again, kick_fault, move_fault, lists_fault, forces_fault, numeric, is_build, built_at, fault_at_start, state_at_start, fault_after, state_after, unless_stopped, state, first_fault}
 use Rattle.run_model.specs.Text.{body_row}
 use Rattle.run_model.specs.RunLaws.{HasAll, StaysWithinLimits, on_grid, but_for_owner, IsSameButForOwners}
 use Rattle.run_model.proofs.OnceEach.{In, map_in, map_same}
@@ -47,11 +47,11 @@ least_below-same f g (suc n) same = let here = same n in let rest = least_below-
 
 -- ---- a particle as it was at the build
 
-pub as_built-in : (built : List Particle) (i : Particle) → In i.id (map (λ (p : Particle). p.id) built) → In (as_built built i) built
-as_built-in [] i h = absurd h
-as_built-in (b ∷ bs) i h =
+pub as_in-in : (built : List Particle) (i : Particle) → In i.id (map (λ (p : Particle). p.id) built) → In (as_in built i) built
+as_in-in [] i h = absurd h
+as_in-in (b ∷ bs) i h =
     cond_both (nat_eq i.id b.id) (Some b) (find (λ (c : Particle). nat_eq i.id c.id) bs) (λ (o : Option Particle). In (unwrap_or o i) (b ∷ bs)) (λ _. inl refl)
-    (λ apart. inr (as_built-in bs i (later h apart)))
+    (λ apart. inr (as_in-in bs i (later h apart)))
   where
     later : In i.id (b.id ∷ map (λ (p : Particle). p.id) bs) → nat_eq i.id b.id ≡ false → In i.id (map (λ (p : Particle). p.id) bs)
     later (inl e) apart = absurd (eqb-false i.id b.id apart (sym e))
@@ -69,8 +69,8 @@ in_ones u = record u { group = 1 }
 module _ (laws : PlaceLaws) (u : Setup) (g : Division) (of_u : IsDivision u.grid) (of_g : IsDivision g) where
   list_for-same : (built now : List Particle) (i : Particle) → AreInCube built → In i.id (map (λ (p : Particle). p.id) built) → list_for (in_ones u) built now i ≡ list_for (on_grid (in_ones u) g) built now i
   list_for-same built now i h k =
-      let b = as_built built i in
-      let inside = as_built-in built i k in
+      let b = as_in built i in
+      let inside = as_in-in built i k in
       ap (λ (box : Bounds). kept_list u.theta box built now) (box_with laws u.grid built b h inside ∙ sym (box_with laws g built b h inside))
 
   in_ids : (built now : List Particle) → map (λ (p : Particle). p.id) now ≡ map (λ (p : Particle). p.id) built → (i : Particle) → In i now → In i.id (map (λ (p : Particle). p.id) built)

@@ -7,7 +7,7 @@ use Rattle.pf_model.specs.Particles.{HaveDistinctIds}
 use Rattle.pf_model.specs.Division.{IsDivision, rank_count}
 use Rattle.pf_model.specs.Domains.{owner, particles_of}
 use Rattle.model_laws.specs.DomainLaws.{LoneRanksHaveAll}
-use Rattle.pf_model.specs.Reuse.{kept_list}
+use Rattle.pf_model.specs.Reuse.{as_in, kept_list}
 use Rattle.model_laws.specs.ReuseLaws.{KeptListsBeginAsLists}
 use Rattle.pf_model.specs.Group.{particles_in, group_of, box_of, group_cells}
 use Rattle.pf_model.specs.Groups.{RankGroup, groups_of_rank, all_groups, group_list}
@@ -21,8 +21,7 @@ use Rattle.std.proofs.lemmas.List.Sums.{sum_by-cons}
 use Rattle.run_model.specs.declared.step_text.RankLine.{RankLine}
 use Rattle.run_model.specs.Setup.{Setup}
 use Rattle.run_model.proofs.OnceEach.{In, map_in, in_from_contains, contains_from_in}
-use Rattle.run_model.proofs.GridLemmas.{as_built-in}
-use Rattle.run_model.specs.Run.{as_built}
+use Rattle.run_model.proofs.GridLemmas.{as_in-in}
 use Rattle.run_model.specs.Text.{cells_in, particles_within, ranks, received_by, lists_of, rank_counts}
 use Rattle.run_model.specs.RunLaws.{lone_lists, IsLoneBuild}
 
@@ -46,14 +45,14 @@ nothing_after (x ∷ xs) = ap (λ rest. x ∷ rest) (nothing_after xs)
 
 -- ---- a particle of the build is what it was
 
-as_built-id : (built : List Particle) (i : Particle) → (as_built built i).id ≡ i.id
-as_built-id [] i = refl
-as_built-id (b ∷ bs) i =
-    cond_both (nat_eq i.id b.id) (Some b) (find (λ (c : Particle). nat_eq i.id c.id) bs) (λ (o : Option Particle). (unwrap_or o i).id ≡ i.id) (λ e. sym (eqb-true i.id b.id e)) (λ _. as_built-id bs i)
+as_in-id : (built : List Particle) (i : Particle) → (as_in built i).id ≡ i.id
+as_in-id [] i = refl
+as_in-id (b ∷ bs) i =
+    cond_both (nat_eq i.id b.id) (Some b) (find (λ (c : Particle). nat_eq i.id c.id) bs) (λ (o : Option Particle). (unwrap_or o i).id ≡ i.id) (λ e. sym (eqb-true i.id b.id e)) (λ _. as_in-id bs i)
 
-as_built-same : ParticlesOfOneIdAreOne → (js : List Particle) (i : Particle) → HaveDistinctIds js → In i js → as_built js i ≡ i
-as_built-same one js i distinct inside =
-    one js (as_built js i) i distinct (contains_from_in js (as_built js i) (as_built-in js i (map_in (λ (p : Particle). p.id) js i inside))) (contains_from_in js i inside) (as_built-id js i)
+as_in-same : ParticlesOfOneIdAreOne → (js : List Particle) (i : Particle) → HaveDistinctIds js → In i js → as_in js i ≡ i
+as_in-same one js i distinct inside =
+    one js (as_in js i) i distinct (contains_from_in js (as_in js i) (as_in-in js i (map_in (λ (p : Particle). p.id) js i inside))) (contains_from_in js i inside) (as_in-id js i)
 
 -- ---- the build
 
@@ -88,7 +87,7 @@ lone_build alone kept ids u js d one distinct =
       ranks = ranks_are;
       owners = have.0;
       lists = λ i inside.
-          ap (λ (b : Particle). kept_list u.theta (box_of (group_of u.group (particles_of u.grid js (owner u.grid js b.at)) b)) js js) (as_built-same ids js i distinct (in_from_contains js i inside))
+          ap (λ (b : Particle). kept_list u.theta (box_of (group_of u.group (particles_of u.grid js (owner u.grid js b.at)) b)) js js) (as_in-same ids js i distinct (in_from_contains js i inside))
           ∙ ap (λ (r : ℕ). kept_list u.theta (box_of (group_of u.group (particles_of u.grid js r) i)) js js) (have.0 i.at)
           ∙ ap (λ (own : List Particle). kept_list u.theta (box_of (group_of u.group own i)) js js) have.1
           ∙ kept u.theta (box_of (group_of u.group js i)) js distinct;

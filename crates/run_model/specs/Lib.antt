@@ -4,4 +4,5 @@ pub mod Force
 pub mod Setup
 pub mod Run
 pub mod Text
+pub mod Answers
 pub mod RunLaws

@@ -1,11 +1,11 @@
 -- Run: the states of a run, step by step, and the first fault of each step.
-use Rattle.std.specs.Prelude.{ℤ, ℕ, zero, suc, ◌%◌, ◌^◌, Bool, List, length, map, sum_by, find, unwrap_or, Option, Some, None, option_map, option_and_then, is_some, nat_eq, nat_lt, if◌then◌else◌}
+use Rattle.std.specs.Prelude.{ℤ, ℕ, zero, suc, ◌%◌, ◌^◌, Bool, List, length, map, sum_by, Option, Some, None, option_map, option_and_then, is_some, nat_eq, nat_lt, if◌then◌else◌}
 use Rattle.pf_model.specs.declared.entry.Entry.{Entry}
 use Rattle.pf_model.specs.Particle.{Particle}
 use Rattle.pf_model.specs.Particles.{by_id}
 use Rattle.order_laws.specs.Order.{first_some, least_below}
 use Rattle.pf_model.specs.Groups.{all_groups, group_with, group_list}
-use Rattle.pf_model.specs.Reuse.{kept_group_list}
+use Rattle.pf_model.specs.Reuse.{as_in, kept_group_list}
 use Rattle.run_model.specs.declared.fault.Fault.{Fault}
 use Rattle.run_model.specs.declared.fault.What.{What}
 use Rattle.run_model.specs.declared.fault.What.TheVariants.{Fast, Escaped}
@@ -31,13 +31,9 @@ pub data Stop : Type 0 where
 
 -- ---- forces at present positions, over the lists of a build
 
--- a particle as it was at the build
-abbrev pub as_built : List Particle → Particle → Particle
-as_built built i = unwrap_or (find (λ b. nat_eq i.id b.id) built) i
-
--- the list of a particle's group, with the members of the build where they are now
+-- the list of a particle's group at the build, with the members of the build where they are now
 abbrev pub list_for : Setup → List Particle → List Particle → Particle → List Entry
-list_for u built now i = kept_group_list u.theta built now (group_with u.group u.grid built (as_built built i))
+list_for u built now i = kept_group_list u.theta built now (group_with u.group u.grid built (as_in built i))
 
 -- the particles with their forces
 abbrev pub with_forces : Setup → List Particle → List Particle → List WithForces

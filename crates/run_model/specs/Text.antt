@@ -2,6 +2,7 @@
 use Rattle.std.specs.Prelude.{ℕ, Bool, true, false, not, List, [], length, map, flat_map, count_by, nat_eq, if◌then◌else◌}
 use Rattle.std.specs.List.{range_with_len}
 use Rattle.std.specs.Option.{option_map_or}
+use Rattle.pf_model.specs.Reuse.{as_in}
 use Rattle.pf_model.specs.declared.entry.Entry.{Entry}
 use Rattle.pf_model.specs.declared.entry.Entry.TheVariants.{Cell, One}
 use Rattle.pf_model.specs.Particle.{Particle}
@@ -14,7 +15,7 @@ use Rattle.run_model.specs.declared.step_text.BodyLine.{BodyLine}
 use Rattle.run_model.specs.declared.step_text.StepText.{StepText}
 use Rattle.run_model.specs.StepText.{step_text}
 use Rattle.run_model.specs.Setup.{Setup}
-use Rattle.run_model.specs.Run.{WithForces, State, as_built, state}
+use Rattle.run_model.specs.Run.{WithForces, State, state}
 
 abbrev pub is_cell_entry : Entry → Bool
 is_cell_entry (Cell c m) = true
@@ -54,7 +55,7 @@ rank_counts u built rank = record {
 unfoldable pub body_row : Setup → List Particle → WithForces → BodyLine
 body_row u built b = record {
   id = b.body.id;
-  owner = owner u.grid built (as_built built b.body).at;
+  owner = owner u.grid built (as_in built b.body).at;
   at = b.body.at;
   vel = b.body.vel;
   forces = b.forces;

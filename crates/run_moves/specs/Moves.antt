@@ -1,16 +1,12 @@
 -- What moves the particles of a run, and why it stops.
-use Rattle.std.specs.Prelude.{◌≡◌, Option, Some}
+use Rattle.std.specs.Prelude.{◌≡◌}
 use Rattle.leapfrog.specs.declared.fault.MoveFault.{MoveFault}
 use Rattle.leapfrog.specs.declared.fault.MoveFault.TheVariants as refused
 use Rattle.run_moves.specs.declared.motion.Motion.{Motion}
 use Rattle.run_model.specs.declared.fault.What.{What}
 use Rattle.run_model.specs.declared.fault.What.TheVariants.{Fast, Escaped}
 use Rattle.run_model.specs.Force.{acc_place}
-use Rattle.run_model.specs.Run.{Stop}
-use Rattle.run_model.specs.Run as stop
 use Rattle.run_model.specs.Setup.{Setup}
-use Rattle.run_moves.specs.declared.fault.MovesFault.{MovesFault}
-use Rattle.run_moves.specs.declared.fault.MovesFault.TheVariants.{Numeric, Memory}
 
 -- a run that moves its particles so
 pub record MovesBy (m : Motion) (u : Setup) : Type 0 where
@@ -22,8 +18,3 @@ pub record MovesBy (m : Motion) (u : Setup) : Type 0 where
 abbrev pub what_of : MoveFault → What
 what_of (refused.Overflow axis) = Fast axis
 what_of (refused.Escaped axis) = Escaped axis
-
--- this is the first fault of the moves, or memory ran out
-abbrev pub IsFaultOf : Option Stop → MovesFault → Type 0
-IsFaultOf first (Numeric fault) = first ≡ Some (stop.Numeric fault)
-IsFaultOf first Memory = Unit {0}

@@ -2,12 +2,10 @@
 // leapfrog, which moves one particle, and on run_model, which defines both.
 #![tactic(auto)]
 
-mod fault;
 mod forced;
 mod motion;
 mod moves;
 
-pub use fault::MovesFault;
 pub use forced::Forced;
 pub use motion::Motion;
 pub use moves::{kick_again, moved};

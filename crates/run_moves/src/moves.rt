@@ -5,22 +5,22 @@ ghost use Rattle.run_model.specs.Force.{first_given};
 ghost use Rattle.run_model.specs.Leapfrog.{along_axes, after_drift, escape_axis};
 ghost use Rattle.run_model.specs.Run as rules;
 ghost use Rattle.run_model.specs.Setup.{Setup};
-ghost use Rattle.run_moves.specs.Moves.{IsFaultOf, MovesBy, what_of};
+ghost use Rattle.run_model.specs.Answers.{StopsAt, of_phase};
+ghost use Rattle.run_moves.specs.Moves.{MovesBy, what_of};
 
-use crate::fault::MovesFault;
 use crate::forced::Forced;
 use crate::motion::Motion;
 use leapfrog::{MoveFault, drift, kick};
 use pf_model::Body;
-use run_model::{Fault, What};
+use run_model::{Fault, PhaseFault, What};
 use std::alloc::{AllocError, Global};
 
 /// The particles after the first half kick and the drift, or the first fault by id.
-pub fn moved(alloc: Global, m: Motion, bodies: &[Forced]) -> Result<Vec<Body>, MovesFault>
+pub fn moved(alloc: Global, m: Motion, bodies: &[Forced]) -> Result<Vec<Body>, PhaseFault>
     ensures moved { (u : Setup) → MovesBy m u → IfOk result (λ now. now.items ≡ map (rules.moved_body u) bodies.now) }
     ensures no_fault { (u : Setup) → MovesBy m u → OnOk result (first_given (rules.move_fault u) bodies.now ≡ None) }
     ensures fault { (u : Setup) → MovesBy m u
-        → IfErr result (IsFaultOf (first_given (rules.move_fault u) bodies.now)) }
+        → IfErr result (λ fault. StopsAt (first_given (rules.move_fault u) bodies.now) (of_phase fault)) }
 {
     let mut now = Vec::with_capacity(alloc, bodies.len())?;
     for forced in bodies {

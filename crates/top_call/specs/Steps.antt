@@ -9,8 +9,8 @@ use Rattle.run_model.specs.Text.{text, texts}
 use Rattle.bench_summary.specs.declared.tally.Tally.{Tally}
 use Rattle.bench_summary.specs.Summary.{rank_lines, tally_of}
 use Rattle.rank_step.specs.World.{Standing, StandsFor}
-use Rattle.rank_step.specs.declared.fault.StepFault.{StepFault}
-use Rattle.rank_step.specs.declared.fault.StepFault.TheVariants as faults
+use Rattle.run_model.specs.declared.fault.StepFault.{StepFault}
+use Rattle.run_model.specs.declared.fault.StepFault.TheVariants as faults
 use Rattle.command_frame.specs.declared.status.Status.TheVariants.{Memory}
 use Rattle.deck_file.specs.declared.limits.TheConstants.{MOST_STEPS}
 use Rattle.pf_geom.specs.declared.edge.Edge.TheVariants.{Open}

@@ -7,7 +7,7 @@ use kern_parse::parse;
 use kern_token::{MOST_TEXT, tokens};
 use kern_types::{Typed, check};
 use pf_model::Body;
-use plain_run::{RunSetup, SlowStop, slow_text};
+use plain_run::{RunSetup, StepFault, slow_text};
 use run_model::{Fault, What};
 use std::alloc::Global;
 use std::process::Abort;
@@ -46,7 +46,7 @@ pub(crate) fn faults(
 ) -> Result<(), Fail> {
     let run = run_of(rt, inputs)?;
     let fault = slow_text(rt.alloc(), &run, step).err();
-    assert_eq!(rt; fault, Some(SlowStop::Numeric(Fault { id, what })));
+    assert_eq!(rt; fault, Some(StepFault::Numeric(Fault { id, what })));
     Ok(())
 }
 

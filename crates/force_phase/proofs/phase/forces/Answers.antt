@@ -1,6 +1,6 @@
 use Rattle.std.proofs.Common.{◌≡◌, length, flat_map, Result, Ok, Err, IfErr, sym, subst}
 use Rattle.std.specs.Result.{IsErr, IsErrAnd}
-use Rattle.force_phase.specs.declared.phase.PhaseFault.{PhaseFault}
+use Rattle.run_model.specs.declared.fault.PhaseFault.{PhaseFault}
 use Rattle.force_phase.specs.Claims.{groups_claimed}
 use Rattle.force_phase.specs.Phase.{StopsPhase}
 use Rattle.force_phase.specs.Working.{groups_at}

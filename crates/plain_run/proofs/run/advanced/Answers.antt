@@ -1,7 +1,7 @@
 use Rattle.std.proofs.Common.{◌≡◌, ◌-◌, suc, subst, arith}
 use Rattle.run_model.specs.Run.{Numeric, Lists, fault_after}
 use Rattle.plain_run.specs.Reaching.{IsReached}
-use Rattle.plain_run.specs.Runs.{StopsAt}
+use Rattle.run_model.specs.Answers.{StopsAt}
 use Rattle.plain_run.proofs.ReachLemmas.{goes_on, stops_at, stays_past}
 use Rattle.plain_run.proofs.run.advanced.Goals as goal
 

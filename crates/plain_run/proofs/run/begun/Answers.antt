@@ -1,6 +1,6 @@
 use Rattle.std.proofs.Common.{subst}
 use Rattle.run_model.specs.Run.{Numeric, Lists, fault_at_start}
-use Rattle.plain_run.specs.Runs.{StopsAt}
+use Rattle.run_model.specs.Answers.{StopsAt}
 use Rattle.plain_run.proofs.ReachLemmas.{starts, stops_at_start}
 use Rattle.plain_run.proofs.run.begun.Goals as goal
 

@@ -3,16 +3,10 @@ use Rattle.std.proofs.lemmas.Result.{err_from_is_err_and}
 use Rattle.run_model.specs.Setup.{Setup}
 use Rattle.run_model.specs.Force.{first_given, acc_place}
 use Rattle.run_model.specs.Run.{State, Stop, move_fault}
-use Rattle.run_moves.specs.Moves.{IsFaultOf, MovesBy}
-use Rattle.run_moves.specs.declared.fault.MovesFault.{MovesFault}
-use Rattle.run_moves.specs.declared.fault.MovesFault.TheVariants as moves_faults
-use Rattle.plain_run.specs.Runs.{StopsAt, of_moves}
+use Rattle.run_moves.specs.Moves.{MovesBy}
+use Rattle.run_model.specs.Answers.{StopsAt, of_phase}
 use Rattle.plain_run.proofs.StopLemmas.{same_stop, stops_first}
 use Rattle.plain_run.proofs.state.after.Goals as goal
-
-stops_moves : (first : Option Stop) (fault : MovesFault) → IsFaultOf first fault → StopsAt first (of_moves fault)
-stops_moves first (moves_faults.Numeric fault) is = is
-stops_moves first moves_faults.Memory is = tt
 
 pub returns-in_err-now-clause-fault : goal.returns-in_err-now-clause-fault
 returns-in_err-now-clause-fault c =
@@ -24,5 +18,5 @@ returns-in_err-now-clause-fault c =
       dt = ap (λ (v : Setup). v.dt) (sym c.run.view_is) ∙ sym c.of-motion.ensures.dt;
     } in
     let bodies = c.deref.ensures.value ∙ ap (λ (s : State). s.bodies) c.before-2.view_is in
-    rw (p.1, p.2) (stops_first _ _ (of_moves c.in_err-now.field-0.0) (same_stop _ _ (of_moves c.in_err-now.field-0.0) (ap (first_given (move_fault u)) bodies)
-    (stops_moves _ c.in_err-now.field-0.0 (c.in_err-now.ensures.fault u moves))))
+    rw (p.1, p.2) (stops_first _ _ (of_phase c.in_err-now.field-0.0) (same_stop _ _ (of_phase c.in_err-now.field-0.0) (ap (first_given (move_fault u)) bodies)
+    (c.in_err-now.ensures.fault u moves)))

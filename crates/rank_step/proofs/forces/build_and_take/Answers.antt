@@ -8,7 +8,7 @@ use Rattle.force_phase.specs.Claims.{HaveAllGroups}
 use Rattle.force_phase.specs.Phase.{bodies_in}
 use Rattle.tree_phase.specs.declared.rank_lists.RankLists.{RankLists}
 use Rattle.rank_step.specs.declared.course.Course.{Course}
-use Rattle.rank_step.specs.Answers.{StopsAt}
+use Rattle.run_model.specs.Answers.{StopsAt}
 use Rattle.rank_step.specs.Build.{AreListsOf}
 use Rattle.rank_step.specs.Taken.{Takes, taking_fault}
 use Rattle.rank_step.specs.Told.{groups_told}

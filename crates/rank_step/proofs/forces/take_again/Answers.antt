@@ -10,7 +10,7 @@ use Rattle.run_model.specs.Force.{first_given}
 use Rattle.run_model.specs.Run.{forces_fault}
 use Rattle.run_model.specs.declared.step_text.RankLine.{RankLine}
 use Rattle.rank_step.specs.declared.course.Course.{Course}
-use Rattle.rank_step.specs.Answers.{StopsAt}
+use Rattle.run_model.specs.Answers.{StopsAt}
 use Rattle.rank_step.specs.Build.{AreListsOf}
 use Rattle.rank_step.specs.Taken.{Takes}
 use Rattle.rank_step.specs.Told.{groups_told}

@@ -2,7 +2,8 @@ use Rattle.std.proofs.Common.{◌≡◌, ◌⊎◌, true, ◌∙◌, ap, map}
 use Rattle.std.proofs.lemmas.Result.{IfOk-weaker, IfErr-weaker}
 use Rattle.run_model.specs.Run.{WithForces}
 use Rattle.rank_step.specs.declared.forces.Taken.{Taken}
-use Rattle.rank_step.specs.Answers.{StopsAt, StopsBy}
+use Rattle.rank_step.specs.Answers.{StopsBy}
+use Rattle.run_model.specs.Answers.{StopsAt}
 use Rattle.rank_step.specs.LastBuild.{AreKeptSince, IsBuildOf, IsLastFor}
 use Rattle.rank_step.specs.Ranks.{HaveTogether}
 use Rattle.rank_step.specs.Taken.{Takes, taking_fault}

@@ -2,7 +2,7 @@ use Rattle.std.proofs.Common.{◌≡◌, ℕ, Bool, true, false, List, map, sym,
 use Rattle.std.specs.Prelude.{IfOk, IfErr}
 use Rattle.pf_model.specs.Particle.{Particle}
 use Rattle.rank_step.specs.declared.forces.Taken.{Taken}
-use Rattle.rank_step.specs.Answers.{StopsAt}
+use Rattle.run_model.specs.Answers.{StopsAt}
 use Rattle.rank_step.specs.LastBuild.{built_from}
 use Rattle.rank_step.specs.Ranks.{held_now}
 use Rattle.rank_step.specs.Taken.{Takes, taking_fault}

@@ -1,19 +1,12 @@
 use Rattle.std.proofs.Common.{List, ℕ, ◌+◌, ◌∙◌, Option, ap, sym, subst, map, arith}
 use Rattle.std.proofs.lemmas.Result.{err_from_is_err_and}
 use Rattle.run_model.specs.Force.{first_given}
-use Rattle.run_model.specs.Run.{Stop, kicked_again, kick_fault}
-use Rattle.run_moves.specs.Moves.{IsFaultOf}
-use Rattle.run_moves.specs.declared.fault.MovesFault.{MovesFault}
-use Rattle.run_moves.specs.declared.fault.MovesFault.TheVariants as moves_faults
-use Rattle.rank_step.specs.Answers.{StopsAt, of_moves}
-use Rattle.rank_step.specs.declared.fault.StepFault.TheVariants.{Numeric}
+use Rattle.run_model.specs.Run.{kicked_again, kick_fault}
+use Rattle.run_model.specs.Answers.{StopsAt, of_phase}
+use Rattle.run_model.specs.declared.fault.StepFault.TheVariants.{Numeric}
 use Rattle.rank_step.specs.LastBuild.{IsLastFor}
 use Rattle.rank_step.proofs.StepLemmas as steps
 use Rattle.rank_step.proofs.course.Course.next.Goals as goal
-
-stops_moves : (first : Option Stop) (fault : MovesFault) → IsFaultOf first fault → StopsAt first (of_moves fault)
-stops_moves first (moves_faults.Numeric fault) is = is
-stops_moves first moves_faults.Memory is = tt
 
 pub forced-requires-clause-particles : goal.forced-requires-clause-particles
 forced-requires-clause-particles g c κs within =
@@ -42,7 +35,7 @@ returns-in_err-now-clause-fault g c u follows before =
     let p = err_from_is_err_and c.from_residual.result c.from_residual.ensures.1 in
     let moves = steps.moves_by c.of-motion.result c.args.self.now c.of-motion.ensures.place c.of-motion.ensures.edge c.of-motion.ensures.dt u follows in
     rw (p.1, p.2)
-    (steps.move_stops u c.args.due c.args.bodies.now c.args.last.bodies.items c.requires.due before (of_moves c.in_err-now.field-0.0) (stops_moves _ c.in_err-now.field-0.0 (c.in_err-now.ensures.fault u moves)))
+    (steps.move_stops u c.args.due c.args.bodies.now c.args.last.bodies.items c.requires.due before (of_phase c.in_err-now.field-0.0) (c.in_err-now.ensures.fault u moves))
 
 pub returns-in_err-taken-clause-fault : goal.returns-in_err-taken-clause-fault
 returns-in_err-taken-clause-fault g c u follows before =

@@ -10,7 +10,7 @@ const CUBE_SIDE: u32 = 1 << 30;
 const HALF_SIDE: u32 = 1 << 29;
 
 /// The particle as a kernel gets it: in a periodic box it stands in the middle.
-pub(crate) fn received(edge: Edge, i: &Body) -> Body
+pub fn received(edge: Edge, i: &Body) -> Body
     ensures { result ≡ rules.received edge i.now }
 {
     match edge {
@@ -27,7 +27,7 @@ pub(crate) fn received(edge: Edge, i: &Body) -> Body
 }
 
 /// An item as a kernel gets it for a particle at x: in a periodic box its nearest image, round the middle.
-pub(crate) fn exerted(edge: Edge, x: Point, item: &Item) -> Item
+pub fn exerted(edge: Edge, x: Point, item: &Item) -> Item
     ensures { result ≡ rules.exerted edge x item.now }
 {
     match edge {
