@@ -29,6 +29,14 @@ counts_in lines = record {
 abbrev pub tally_of : List ℕ → List RankLine → Tally
 tally_of texts lines = record { counts = counts_in lines; bytes = length texts; digest = digest texts }
 
+-- and of one more text, and the rank lines in it
+abbrev pub tally_after : Tally → List ℕ → List RankLine → Tally
+tally_after tally text lines = record {
+  counts = counts_in lines;
+  bytes = tally.bytes + length text;
+  digest = fold next_digest tally.digest text;
+}
+
 -- a line that ends in a number
 abbrev pub number_line : List ℕ → ℕ → List ℕ
 number_line label number = label ++ decimal number ++ codes "\n"

@@ -1,7 +1,7 @@
 ghost use Rattle.std.specs.Prelude.{◌≡◌, ◌+◌, ◌<◌, ◌^◌, List, [], ◌++◌, length, ℕ};
 ghost use Rattle.std.specs.List.{fold};
 ghost use Rattle.run_model.specs.declared.step_text.RankLine.{RankLine};
-ghost use Rattle.bench_summary.specs.Summary.{next_digest, tally_of};
+ghost use Rattle.bench_summary.specs.Summary.{next_digest, tally_after, tally_of};
 
 use crate::counts::{Counts, counts_in};
 use run_model::RankLine;
@@ -32,7 +32,8 @@ impl Tally {
     /// Takes the text of the next step, and the lines of the ranks in it.
     pub fn take(&mut self, text: &[u8], lines: &[RankLine])
         requires { self.old.bytes + length text.now < 2 ^ 128 }
-        ensures { (texts : List ℕ) (earlier : List RankLine) → self.old ≡ tally_of texts earlier
+        ensures after { self.new ≡ tally_after self.old text.now lines.now }
+        ensures so_far { (texts : List ℕ) (earlier : List RankLine) → self.old ≡ tally_of texts earlier
             → self.new ≡ tally_of (texts ++ text.now) lines.now }
     {
         self.counts = counts_in(lines);

@@ -11,7 +11,7 @@ returns-in-Ok-clause-room g c =
     let before = texts g.run c.args.step in
     let tallied = c.requires.1.1.1.1.1.1.1.1.1 in
     let old = ap (λ (t : Tally). t.bytes) tallied in
-    let new = ap (λ (t : Tally). t.bytes) (c.take.ensures before (lines_before g.run c.args.step) tallied) in
+    let new = ap (λ (t : Tally). t.bytes) (c.take.ensures.so_far before (lines_before g.run c.args.step) tallied) in
     let long = length-append before c.deref.result.now in
     let room = c.requires.1.1.1.1.1.1.1.1.0 in
     omega arith
@@ -19,7 +19,7 @@ returns-in-Ok-clause-room g c =
 pub returns-in-Ok-clause-takes : goal.returns-in-Ok-clause-takes
 returns-in-Ok-clause-takes g c =
     let taken = rw c.requires.1.1.1.1.0 at (c.in-Ok.ensures g.run c.requires.1.1.1.1.1.0) in
-    let tally = c.take.ensures (texts g.run c.args.step) (lines_before g.run c.args.step) c.requires.1.1.1.1.1.1.1.1.1 in
+    let tally = c.take.ensures.so_far (texts g.run c.args.step) (lines_before g.run c.args.step) c.requires.1.1.1.1.1.1.1.1.1 in
     (taken.0, taken.2, taken.3, tallied_next g.run c.args.step _ _ _ tally (c.deref.ensures.value ∙ taken.1) (c.as_slice.ensures ∙ taken.4))
 
 pub returns-in-Err-Numeric-clause-takes : goal.returns-in-Err-Numeric-clause-takes
