@@ -1,10 +1,11 @@
 -- The pieces of cell runs over the positions of particles.
-use Rattle.std.proofs.Common.{◌≡◌, ℕ, ◌+◌, ◌<◌, ◌≤◌, Bool, List, [], length, get_or, map, nat_eq, Option, Some, None, refl, sym, ◌∙◌, ap, subst, arith}
+use Rattle.std.proofs.Common.{◌≡◌, ℕ, ◌+◌, ◌<◌, ◌≤◌, ◌↔◌, Bool, true, List, [], length, get_or, map, nat_eq, Option, Some, None, refl, sym, ◌∙◌, ap, subst, arith}
 use Rattle.std.specs.Option.{is_none}
 use Rattle.std.specs.Prelude.{IfSome}
 use Rattle.std.specs.List.{filter, All, Contains}
 use Rattle.std.proofs.lemmas.Bool.{eqb-true, eq-eqb, and_parts, and_from}
 use Rattle.std.proofs.lemmas.List.{length-map, get_or-map, get_or_default}
+use Rattle.order_laws.specs.OrderLaws.{TestsKeepSpans}
 use Rattle.pf_geom.specs.Position.{Position}
 use Rattle.pf_geom.specs.Bounds.{Bounds}
 use Rattle.pf_geom.specs.Octant.{Octant, cell_at}
@@ -22,7 +23,7 @@ use Rattle.cell_runs.specs.CellRuns.{IsPlaceOf, IsWholeCell, IsCellRun, AreCellR
 use Rattle.cell_runs.specs.RunLaws.{RunsHoldEachPlace, RunsRise}
 use Rattle.tree_lists.specs.declared.piece.Piece.{Piece}
 use Rattle.tree_lists.specs.Pieces.{place_by_level, piece_place, piece_of, IsRunAmong, ArePiecesOf, IsPieceOf, ArePieces}
-use Rattle.tree_lists.proofs.SpanLemmas.{PassAt, filter_is_span, length-span, read_span, in_span, place_of_id}
+use Rattle.tree_lists.proofs.SpanLemmas.{length-span, read_span, in_span, place_of_id}
 
 abbrev origin : Position
 origin = record { x = 0; y = 0; z = 0 }
@@ -81,29 +82,29 @@ cell_in_run t box js r level run is k d within =
     let first : cell_at (get_or (positions js) r.first origin) level ≡ cell_at (lead js r).at level = ap (λ (p : Position). cell_at p level) (position_read js r.first origin nobody (omega arith)) in
     (λ of. sym at ∙ here.0 of ∙ first, λ same. here.1 (at ∙ same ∙ sym first))
 
-members_in_cell : LevelsAreLeast → FirstCellsHoldTheirMembers → (t : Criterion) (box : Bounds) (js : List Particle) (r : CellRun) (level : ℕ) → IsRunOver t box js r → r.level ≡ Some level → at_span (span_of_run r) js ≡ filter (leads_to_cell t box (cell_at (lead js r).at level)) js
-members_in_cell laws members t box js r level run is =
+members_in_cell : TestsKeepSpans Particle → LevelsAreLeast → FirstCellsHoldTheirMembers → (t : Criterion) (box : Bounds) (js : List Particle) (r : CellRun) (level : ℕ) → IsRunOver t box js r → r.level ≡ Some level → at_span (span_of_run r) js ≡ filter (leads_to_cell t box (cell_at (lead js r).at level)) js
+members_in_cell spans laws members t box js r level run is =
     let c = cell_at (lead js r).at level in
     let test : Particle → Bool = λ j. is_cell c (cell_at j.at c.level) in
-    let pass : PassAt test js r.first r.len = λ k d within.
+    let pass : (k : ℕ) (d : Particle) → k < length js → (test (get_or js k d) ≡ true) ↔ IsPlaceOf r k = λ k d within.
     let here = cell_in_run t box js r level run is k d within in
     let cell = cell_at (get_or js k d).at level in (
       λ e. here.1 (ap (λ (key : ℕ). record { level = level; key = key }) (sym (eqb-true c.key cell.key (and_parts _ _ e).1))),
       λ of. and_from _ _ (eq-eqb level level refl) (eq-eqb c.key cell.key (sym (ap (λ (o : Octant). o.key) (here.0 of)))),
     ) in
     let first = ((laws t box (lead js r).at).1 level).0 (level_of_lead t box js r run ∙ is) in
-    filter_is_span test js r.first r.len run.inside pass ∙ sym (members t box (lead js r).at level js first)
+    sym (spans test js r.first r.len run.inside pass) ∙ sym (members t box (lead js r).at level js first)
 
 -- where it has none, it is its first particle alone
 alone : (t : Criterion) (box : Bounds) (js : List Particle) (r : CellRun) → IsRunOver t box js r → r.level ≡ None → r.len ≡ 1
 alone t box js r run is = subst (λ (o : Option ℕ). IsWholeCell o (positions js) r) is run.whole
 
-members_alone : (t : Criterion) (box : Bounds) (js : List Particle) (r : CellRun) → HaveDistinctIds js → IsRunOver t box js r → r.level ≡ None → at_span (span_of_run r) js ≡ filter (leads_to t box (One (lead js r))) js
-members_alone t box js r distinct run is =
+members_alone : TestsKeepSpans Particle → (t : Criterion) (box : Bounds) (js : List Particle) (r : CellRun) → HaveDistinctIds js → IsRunOver t box js r → r.level ≡ None → at_span (span_of_run r) js ≡ filter (leads_to t box (One (lead js r))) js
+members_alone spans t box js r distinct run is =
     let x = lead js r in
     let inside = run.inside in
     let one = alone t box js r run is in
-    let pass : PassAt (leads_to t box (One x)) js r.first r.len = λ k d within. (
+    let pass : (k : ℕ) (d : Particle) → k < length js → (leads_to t box (One x) (get_or js k d) ≡ true) ↔ IsPlaceOf r k = λ k d within. (
       λ e.
           let same : r.first ≡ k = place_of_id js distinct r.first k nobody d (omega arith) within (eqb-true x.id (get_or js k d).id (and_parts (is_none (level_of t box (get_or js k d).at)) (nat_eq x.id (get_or js k d).id) e).1) in
           (omega arith, omega arith),
@@ -114,16 +115,16 @@ members_alone t box js r distinct run is =
           let id : x.id ≡ (get_or js k d).id = ap (λ (j : Particle). j.id) (ap (λ (n : ℕ). get_or js n nobody) same ∙ get_or_default js k nobody d within) in
           and_from _ _ (ap is_none (run.level k d of ∙ is)) (eq-eqb x.id (get_or js k d).id id),
     ) in
-    filter_is_span (leads_to t box (One x)) js r.first r.len inside pass
+    sym (spans (leads_to t box (One x)) js r.first r.len inside pass)
 
 place_is : (t : Criterion) (box : Bounds) (js : List Particle) (first : ℕ) (j : Particle) (o : Option ℕ) → place_by_level o first j ≡ piece_place (entry_at t box js j o) first
 place_is t box js first j None = refl
 place_is t box js first j (Some level) = refl
 
 -- what all particles of a run lead to
-members_by_level : LevelsAreLeast → FirstCellsHoldTheirMembers → (t : Criterion) (box : Bounds) (js : List Particle) (r : CellRun) (o : Option ℕ) → HaveDistinctIds js → IsRunOver t box js r → r.level ≡ o → at_span (span_of_run r) js ≡ members_of t box js (entry_at t box js (lead js r) o)
-members_by_level laws members t box js r None distinct run is = members_alone t box js r distinct run is
-members_by_level laws members t box js r (Some level) distinct run is = members_in_cell laws members t box js r level run is
+members_by_level : TestsKeepSpans Particle → LevelsAreLeast → FirstCellsHoldTheirMembers → (t : Criterion) (box : Bounds) (js : List Particle) (r : CellRun) (o : Option ℕ) → HaveDistinctIds js → IsRunOver t box js r → r.level ≡ o → at_span (span_of_run r) js ≡ members_of t box js (entry_at t box js (lead js r) o)
+members_by_level spans laws members t box js r None distinct run is = members_alone spans t box js r distinct run is
+members_by_level spans laws members t box js r (Some level) distinct run is = members_in_cell spans laws members t box js r level run is
 
 same_entry : (t : Criterion) (box : Bounds) (js : List Particle) (r : CellRun) (o : Option ℕ) → IsRunOver t box js r → r.level ≡ o → (k : ℕ) (d : Particle) → k < length js → IsPlaceOf r k → entry_at t box js (get_or js k d) o ≡ entry_at t box js (lead js r) o
 same_entry t box js r None run is k d within of =
@@ -135,8 +136,8 @@ same_entry t box js r None run is k d within of =
 same_entry t box js r (Some level) run is k d within of =
     ap (λ (c : Octant). Cell c (moment_of (filter (leads_to_cell t box c) js))) ((cell_in_run t box js r level run is k d within).0 of)
 
-piece_from_run : LevelsAreLeast → FirstCellsHoldTheirMembers → (t : Criterion) (box : Bounds) (js : List Particle) (r : CellRun) → HaveDistinctIds js → IsRunOver t box js r → IsPieceOf t box js (entry_of t box js (lead js r)) (piece_of r (lead js r))
-piece_from_run laws members t box js r distinct run =
+piece_from_run : TestsKeepSpans Particle → LevelsAreLeast → FirstCellsHoldTheirMembers → (t : Criterion) (box : Bounds) (js : List Particle) (r : CellRun) → HaveDistinctIds js → IsRunOver t box js r → IsPieceOf t box js (entry_of t box js (lead js r)) (piece_of r (lead js r))
+piece_from_run spans laws members t box js r distinct run =
     let x = lead js r in
     let level = level_of_lead t box js r run in
     let entry : entry_of t box js x ≡ entry_at t box js x r.level = ap (entry_at t box js x) level in
@@ -144,7 +145,7 @@ piece_from_run laws members t box js r distinct run =
       place = ap (λ (o : Option ℕ). place_by_level o r.first x) (sym level) ∙ place_is t box js r.first x (level_of t box x.at);
       some = run.some;
       inside = run.inside;
-      members = members_by_level laws members t box js r r.level distinct run refl ∙ ap (members_of t box js) (sym entry);
+      members = members_by_level spans laws members t box js r r.level distinct run refl ∙ ap (members_of t box js) (sym entry);
       lead = λ n d within.
           let inside = run.inside in
           let long = length-span (span_of_run r) js inside in
@@ -157,8 +158,8 @@ piece_from_run laws members t box js r distinct run =
     }
 
 -- the pieces of all runs
-pub pieces_from_runs : LevelsAreLeast → FirstCellsHoldTheirMembers → RunsHoldEachPlace → RunsRise → (t : Criterion) (box : Bounds) (js : List Particle) (rs : List CellRun) (qs : List Piece) → HaveDistinctIds js → AreCellRuns t box (positions js) rs → ArePiecesOf js rs qs → ArePieces t box js qs
-pieces_from_runs laws members holds rise t box js rs qs distinct runs pieces =
+pub pieces_from_runs : TestsKeepSpans Particle → LevelsAreLeast → FirstCellsHoldTheirMembers → RunsHoldEachPlace → RunsRise → (t : Criterion) (box : Bounds) (js : List Particle) (rs : List CellRun) (qs : List Piece) → HaveDistinctIds js → AreCellRuns t box (positions js) rs → ArePiecesOf js rs qs → ArePieces t box js qs
+pieces_from_runs spans laws members holds rise t box js rs qs distinct runs pieces =
     let counted = pieces.counted in
     let long : length (positions js) ≡ length js = length-map js (λ (j : Particle). j.at) in
     let is : (k : ℕ) (d : Piece) → k < length qs → get_or qs k d ≡ piece_of (get_or rs k no_run) (lead js (get_or rs k no_run)) = λ k d within. pieces.each k no_run nobody d (omega arith) in
@@ -166,7 +167,7 @@ pieces_from_runs laws members holds rise t box js rs qs distinct runs pieces =
       each = λ k d within.
           let r = get_or rs k no_run in
           let run = over_from_run t box js r (runs.each k no_run (omega arith)) in
-          (entry_of t box js (lead js r), subst (IsPieceOf t box js (entry_of t box js (lead js r))) (sym (is k d within)) (piece_from_run laws members t box js r distinct run));
+          (entry_of t box js (lead js r), subst (IsPieceOf t box js (entry_of t box js (lead js r))) (sym (is k d within)) (piece_from_run spans laws members t box js r distinct run));
       complete = λ j h.
           let k = h.0 in
           let inside : k < length js = h.1 in

@@ -1,7 +1,7 @@
--- Spans of places whose elements are all that pass a test.
-use Rattle.std.proofs.Common.{◌≡◌, ℕ, zero, suc, ◌+◌, ◌-◌, ◌<◌, ◌≤◌, ◌↔◌, Bool, true, false, List, [], ◌∷◌, length, get_or, map, take, drop, inl, inr, refl, sym, ◌∙◌, ap, arith}
-use Rattle.std.specs.List.{filter, Contains}
-use Rattle.std.proofs.lemmas.Bool.{cases_order, false_from_ne_true, cond-true, cond-false}
+-- What stands in a span, and where.
+use Rattle.std.proofs.Common.{◌≡◌, ℕ, ◌+◌, ◌-◌, ◌<◌, ◌≤◌, List, length, get_or, map, drop, inl, inr, sym, ◌∙◌, ap, arith}
+use Rattle.std.specs.List.{Contains}
+use Rattle.std.proofs.lemmas.Bool.{cases_order}
 use Rattle.std.proofs.lemmas.Bool.Decides.{Decides-eqb}
 use Rattle.std.proofs.lemmas.List.{length-map, length-drop, length-take-le, get_or-map, get_or-take, get_or-drop}
 use Rattle.std.proofs.lemmas.Map.Made.{AllPairs-from_IsDistinct}
@@ -9,32 +9,6 @@ use Rattle.pf_model.specs.Particle.{Particle}
 use Rattle.pf_model.specs.Particles.{HaveDistinctIds}
 use Rattle.morton_tree.specs.declared.span.Span.{Span}
 use Rattle.morton_tree.specs.Spans.{at_span}
-
--- the elements that pass are those at so many places from the first on
-abbrev pub PassAt : {X : Type 0} → (X → Bool) → List X → ℕ → ℕ → Type 0
-PassAt {X} q xs first len = (k : ℕ) (d : X) → k < length xs → (q (get_or xs k d) ≡ true) ↔ ((first ≤ k) × (k < first + len))
-
-pass_tail : {X : Type 0} (q : X → Bool) (x : X) (xs : List X) (a b c d : ℕ) → ((k : ℕ) → ((a ≤ suc k) × (suc k < a + b)) ↔ ((c ≤ k) × (k < c + d))) → PassAt q (x ∷ xs) a b → PassAt q xs c d
-pass_tail q x xs a b c d same h k e within =
-    let here = h (suc k) e (omega arith) in
-    (λ p. (same k).0 (here.0 p), λ r. here.1 ((same k).1 r))
-
-pub filter_is_span : {X : Type 0} (q : X → Bool) (xs : List X) (first len : ℕ) → first + len ≤ length xs → PassAt q xs first len → take len (drop first xs) ≡ filter q xs
-filter_is_span q [] zero zero within h = refl
-filter_is_span q [] zero (suc len) within h = absurd (omega arith)
-filter_is_span q [] (suc first) len within h = absurd (omega arith)
-filter_is_span q (x ∷ xs) zero zero within h =
-    let rest = filter_is_span q xs zero zero (omega arith) (pass_tail q x xs zero zero zero zero (λ k. (λ r. absurd (let less = r.1 in omega arith), λ r. absurd (let less = r.1 in omega arith))) h) in
-    let fails : q x ≡ false = false_from_ne_true (q x) (λ e. let less = ((h 0 x (omega arith)).0 e).1 in omega arith) in
-    rest ∙ sym (cond-false (q x) (x ∷ filter q xs) (filter q xs) fails)
-filter_is_span q (x ∷ xs) zero (suc len) within h =
-    let rest = filter_is_span q xs zero len (omega arith) (pass_tail q x xs zero (suc len) zero len (λ k. (λ r. (omega arith, let less = r.1 in omega arith), λ r. (omega arith, let less = r.1 in omega arith))) h) in
-    let holds : q x ≡ true = (h 0 x (omega arith)).1 (omega arith, omega arith) in
-    ap (λ ys. x ∷ ys) rest ∙ sym (cond-true (q x) (x ∷ filter q xs) (filter q xs) holds)
-filter_is_span q (x ∷ xs) (suc first) len within h =
-    let rest = filter_is_span q xs first len (omega arith) (pass_tail q x xs (suc first) len first len (λ k. (λ r. (let least = r.0 in omega arith, let less = r.1 in omega arith), λ r. (let least = r.0 in omega arith, let less = r.1 in omega arith))) h) in
-    let fails : q x ≡ false = false_from_ne_true (q x) (λ e. let least = ((h 0 x (omega arith)).0 e).0 in omega arith) in
-    rest ∙ sym (cond-false (q x) (x ∷ filter q xs) (filter q xs) fails)
 
 -- what stands in a span
 pub length-span : (s : Span) (js : List Particle) → s.first + s.len ≤ length js → length (at_span s js) ≡ s.len

@@ -6,6 +6,7 @@ use crate::piece::Piece;
 use cell_runs::{CellRun, find_runs, runs_hold_each_place, runs_rise};
 use model_laws::{first_cells_hold_their_members, levels_are_least};
 use morton_tree::{Span, Tree};
+use order_laws::tests_keep_spans;
 use pf_geom::{Box3, DEEPEST, keys_fit};
 use pf_model::{Body, Steps, Theta};
 use pf_num::OutOfMemory;
@@ -35,6 +36,7 @@ pub(crate) fn pieces_of<L: Ledger>(
     keys_fit();
     runs_hold_each_place();
     runs_rise();
+    tests_keep_spans::<Body>();
     let bodies = tree.bodies();
     find_runs(tree.keys(), b, t, runs, steps)?;
     pieces_for(alloc, bodies, runs)

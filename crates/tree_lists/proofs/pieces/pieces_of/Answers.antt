@@ -35,6 +35,6 @@ returns-clause-pieces g c =
     let distinct = c.bodies-bodies.ensures.tree.are_bodies.distinct in
     IfOk-weaker c.pieces_for.result (λ qs. ArePiecesOf js c.deref.result.now qs.items) (λ qs. ArePieces c.args.t c.args.b c.args.tree.now.built qs.items) (λ qs pieces.
     subst (λ (ks : List Particle). ArePieces c.args.t c.args.b ks qs.items) same
-    (pieces_from_runs c.levels_are_least.ensures c.first_cells_hold_their_members.ensures c.runs_hold_each_place.ensures c.runs_rise.ensures c.args.t c.args.b js rs qs.items
+    (pieces_from_runs c.tests_keep_spans.ensures c.levels_are_least.ensures c.first_cells_hold_their_members.ensures c.runs_hold_each_place.ensures c.runs_rise.ensures c.args.t c.args.b js rs qs.items
     (subst HaveDistinctIds (sym same) distinct) runs (subst (λ (ss : List CellRun). ArePiecesOf js ss qs.items) c.deref.ensures.value pieces)))
     c.pieces_for.ensures
