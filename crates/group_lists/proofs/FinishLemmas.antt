@@ -1,5 +1,5 @@
 -- The lists that are whole, with what is kept of the trees that were absorbed.
-use Rattle.std.proofs.Common.{◌≡◌, ℕ, zero, suc, ◌<◌, ◌≤◌, List, [], ◌∷◌, length, get_or, map, refl, sym, ◌∙◌, ap, subst, arith, nat_eq}
+use Rattle.std.proofs.Common.{◌≡◌, ℕ, ◌<◌, ◌≤◌, List, [], ◌∷◌, length, get_or, map, refl, sym, ◌∙◌, ap, subst, arith, nat_eq}
 use Rattle.std.specs.List.{All, AllZip, Contains}
 use Rattle.std.specs.List.Sorted.{IsPermutation}
 use Rattle.std.proofs.lemmas.List.{length-map, get_or-map}
@@ -23,22 +23,10 @@ use Rattle.group_lists.specs.Whole.{IsListed}
 use Rattle.group_lists.specs.Listing.{IsSource}
 use Rattle.group_lists.specs.Indexed.{as_items, IsIndexOf, IsKeptOf, source_items, FitList, AreWhole}
 use Rattle.group_lists.specs.PieceLaws.{GroupsAreServed, ItemsLieByPlace}
+use Rattle.group_lists.proofs.ElementLemmas.{contains_more, zip_second}
 use Rattle.group_lists.proofs.GatherLemmas.{list_round}
 use Rattle.group_lists.proofs.TotalLemmas.{length-filter-le}
 use Rattle.group_lists.proofs.OccupiedLemmas.{mapped_in}
-
-contains_more : {X : Type 0} (y : X) (ys : List X) (x : X) → Contains ys x → Contains (y ∷ ys) x
-contains_more y ys x h = (suc h.0, (let within : h.0 < length ys = h.1 in omega arith), h.2)
-
--- to an element of the one list belongs one of the other
-zip_from : {A B : Type 0} (R : A → B → Type 0) (xs : List A) (ys : List B) (y : B) → AllZip R xs ys → Contains ys y → (x : A) × Contains xs x × R x y
-zip_from R [] [] y all h = absurd (omega (arith, h.1))
-zip_from R [] (b ∷ bs) y all h = absurd all
-zip_from R (a ∷ more) [] y all h = absurd all
-zip_from R (a ∷ more) (b ∷ bs) y all (zero, within, at) = (a, (0, omega arith, refl), subst (R a) at all.0)
-zip_from R (a ∷ more) (b ∷ bs) y all (suc k, within, at) =
-    let rest = zip_from R more bs y all.1 (k, omega arith, at) in
-    (rest.0, contains_more a more rest.0 rest.1, rest.2)
 
 zip_map : {A B C D : Type 0} (f : A → C) (h : B → D) (R : A → B → Type 0) (S : C → D → Type 0) (xs : List A) (ys : List B) → ((x : A) (y : B) → Contains xs x → R x y → S (f x) (h y)) → AllZip R xs ys → AllZip S (map f xs) (map h ys)
 zip_map f h R S [] [] each all = tt
@@ -88,7 +76,7 @@ module _ (t : Criterion) (g : Division) (js : List Particle) (rank : ℕ) (built
 
     pub sources_fit : (l : Listed) (s : KeptSource) → Contains listed l → Contains sources s → FitList l.entries.items s.items.items
     sources_fit l s in_listed in_sources =
-        let from = zip_from (λ tree s. IsKeptOf t g js tree s) trees sources s kept in_sources in
+        let from = zip_second (λ tree s. IsKeptOf t g js tree s) trees sources s kept in_sources in
         let tree = from.0 in
         let was = sent tree from.1 in
         let here : tree.dst ≡ rank = was.here in
@@ -105,6 +93,6 @@ module _ (t : Criterion) (g : Division) (js : List Particle) (rank : ℕ) (built
           same_ids = ap (map (λ (j : Particle). j.id)) unmoved;
           each = λ l there. All-contains (λ (m : Listed). IsListed (length built) m.group.span m.entries.items) listed l each there;
           found = found;
-          kept = λ s there. (zip_from (λ tree s. IsKeptOf t g js tree s) trees sources s kept there).2.kept;
+          kept = λ s there. (zip_second (λ tree s. IsKeptOf t g js tree s) trees sources s kept there).2.kept;
           fit = sources_fit;
         }

@@ -160,10 +160,6 @@ listed_each short laws t js own listed distinct few of_own lists k d within =
       some = subst (All HasMembers) (sym entries) (All-list_of laws t l.group.around js distinct);
     }
 
-pub map-map : {X Y Z : Type 0} (f : Y → Z) (g : X → Y) (xs : List X) → map f (map g xs) ≡ map (λ x. f (g x)) xs
-map-map f g [] = refl
-map-map f g (x ∷ xs) = ap (λ l. f (g x) ∷ l) (map-map f g xs)
-
 -- what is read at a place of a list, seen through a function
 pub read_through : {X Y : Type 0} (f : X → Y) (xs : List X) (k : ℕ) (x : X) → k < length xs → x ≡ get_or xs k x → slice_get (map f xs) k ≡ Some (f x)
 read_through f xs k x within at = slice_get-map f xs k ∙ ap (option_map f) (slice_get_read xs (length xs) k x refl within at)

@@ -1,10 +1,10 @@
 -- What stands at the places that an index tells.
-use Rattle.std.proofs.Common.{◌≡◌, ℕ, zero, suc, ◌+◌, ◌-◌, ◌/◌, ◌^◌, ◌<◌, ◌≤◌, Bool, true, false, List, [], ◌∷◌, ◌++◌, length, get_or, map, take, drop, inl, inr, ◌⊎◌, Option, Some, None, slice_get, refl, sym, ◌∙◌, ap, subst, arith, ltb, leb, nat_eq, length-append}
-use Rattle.std.specs.List.{filter, Contains, IsDistinct}
+use Rattle.std.proofs.Common.{◌≡◌, ℕ, zero, suc, ◌+◌, ◌-◌, ◌/◌, ◌^◌, ◌<◌, ◌≤◌, Bool, true, false, List, [], ◌∷◌, ◌++◌, length, get_or, map, take, inl, inr, Option, Some, None, slice_get, refl, sym, ◌∙◌, ap, subst, arith, ltb, leb, nat_eq}
+use Rattle.std.specs.List.{Contains, IsDistinct}
 use Rattle.std.specs.List.Sorted.{IsPartitionPoint, IsNonDecreasing, IsNonDecreasingBy, IsPermutation}
 use Rattle.std.proofs.lemmas.Bool.{cases_lt, ltb-true, ltb-false, leb-true, leb-false, eqb-true, eqb-false, eq-eqb, and_parts, and_from, true≢false}
-use Rattle.std.proofs.lemmas.List.{length-map, get_or-map, get_or_default, get_or_append_left, get_or_push, take_more, take_all, map-append}
-use Rattle.std.proofs.lemmas.List.Elements.{All-from_recursion}
+use Rattle.std.proofs.lemmas.List.{length-map, get_or-map, get_or_default, take_more, take_all, map-append}
+use Rattle.std.proofs.lemmas.List.Elements.{All-from_recursion, Contains-push, Contains-push_cases, Contains-append_left}
 use Rattle.std.proofs.lemmas.Option.{slice_get_within, slice_get-get_or, get_or_from_slice_get}
 use Rattle.std.proofs.lemmas.List.Sorted.{Contains-permutation, IsPermutation-sym}
 use Rattle.pf_geom.specs.Octant.{Octant}
@@ -22,8 +22,8 @@ use Rattle.group_lists.specs.Keyed.{item_key}
 use Rattle.group_lists.specs.Listing.{IsSpanOf}
 use Rattle.group_lists.specs.Indexed.{IsParticleAt, AreIdsOf, HaveDistinctPlaces, IsIndexOf, LieByPlace, as_items}
 use Rattle.group_lists.proofs.KeyedLemmas.{is_cell_of, is_lower, place_key, keys_rise}
-use Rattle.group_lists.proofs.ApartLemmas.{segment}
-use Rattle.group_lists.proofs.PlacedLemmas.{rise_along, map-map}
+use Rattle.group_lists.proofs.PlacedLemmas.{rise_along}
+use Rattle.group_lists.proofs.ElementLemmas.{map-map}
 
 abbrev pub itself : ℕ → ℕ
 itself n = n
@@ -78,11 +78,6 @@ span_of_ends c ks a b e =
                 and_from _ _ (eq-eqb c.level c.level refl) (eq-eqb c.key key (omega arith)),
           );
     }
-
--- the items of a span
-pub span_is_filter : {X : Type 0} (test : X → Bool) (xs : List X) (s : Span) → IsSpanOf test xs s → take s.len (drop s.first xs) ≡ filter test xs
-span_is_filter test xs s h =
-    sym (segment test xs s.first s.len h.inside (λ k d within least less. (h.exactly k d within).1 (least, less)) (λ k d within e. (h.exactly k d within).0 e))
 
 -- a span of keys is one of items
 pub span_from_keys : (c : Octant) (m : Totals) (items : List Entry) (index : ItemIndex) (s : Span) → IsIndexOf items index → LieByPlace items (Cell c m) → IsSpanOf (is_cell_of itself c) index.keys.items s → IsSpanOf (λ f. lies_in f (Cell c m)) items s
@@ -184,36 +179,17 @@ no_ids items ids e = record {
   complete = λ k p less at. absurd (omega arith);
 }
 
-pub contains_push : {X : Type 0} (xs : List X) (y x : X) → Contains xs x → Contains (xs ++ y ∷ []) x
-contains_push xs y x h =
-    let within : h.0 < length xs = h.1 in
-    let long = length-append xs (y ∷ []) in
-    (h.0, omega arith, get_or_append_left xs (y ∷ []) x h.0 within ∙ h.2)
-
-pub contains_last : {X : Type 0} (xs : List X) (y : X) → Contains (xs ++ y ∷ []) y
-contains_last xs y = (length xs, (let long = length-append xs (y ∷ []) in omega arith), get_or_push xs y y (length xs) refl)
-
-pub contained_or_last : {X : Type 0} (xs : List X) (y x : X) → Contains (xs ++ y ∷ []) x → Contains xs x ⊎ (y ≡ x)
-contained_or_last [] y x (zero, within, at) = inr at
-contained_or_last [] y x (suc k, within, at) = absurd (omega arith)
-contained_or_last (z ∷ zs) y x (zero, within, at) = inl (0, omega arith, at)
-contained_or_last (z ∷ zs) y x (suc k, within, at) =
-    elim (contained_or_last zs y x (k, omega arith, at)) [
-      | inl h ↦ inl (suc h.0, (let inside : h.0 < length zs = h.1 in omega arith), h.2)
-      | inr e ↦ inr e
-    ]
-
 -- with one particle more
 pub ids_more : (items : List Entry) (n m : ℕ) (ids more : List IdPlace) (p : Particle) (i : IdPlace) → AreIdsUpTo items n ids → slice_get items n ≡ Some (One p) → i ≡ record { id = p.id; place = n } → more ≡ ids ++ i ∷ [] → m ≡ n + 1 → AreIdsUpTo items m more
 ids_more items n m ids more p i h at named pushed next =
-    let here : Contains (ids ++ i ∷ []) (record { id = p.id; place = n }) = subst (Contains (ids ++ i ∷ [])) named (contains_last ids i) in
+    let here : Contains (ids ++ i ∷ []) (record { id = p.id; place = n }) = subst (Contains (ids ++ i ∷ [])) named (Contains-push ids i) in
     subst (λ (l : List IdPlace). AreIdsUpTo items m l) (sym pushed) (record {
-      sound = λ j there. elim (contained_or_last ids i j there) [
+      sound = λ j there. elim (Contains-push_cases ids i j there) [
         | inl before ↦ h.sound j before
         | inr same ↦ subst (IsParticleAt items) (sym named ∙ same) (p, at, refl)
       ];
       complete = λ k q less read. elim (cases_lt k n) [
-        | inl before ↦ contains_push ids i _ (h.complete k q before read)
+        | inl before ↦ Contains-append_left ids (i ∷ []) _ (h.complete k q before read)
         | inr last ↦
             let place : n ≡ k = omega arith in
             let both : Some (One p) ≡ Some (One q) = sym at ∙ ap (slice_get items) place ∙ read in

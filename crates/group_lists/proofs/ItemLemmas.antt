@@ -1,5 +1,5 @@
 -- The entries that runs of an essential tree's items make, seen from a box that the tree serves.
-use Rattle.std.proofs.Common.{◌≡◌, ℕ, suc, ◌+◌, ◌<◌, ◌≤◌, Bool, true, List, [], ◌∷◌, length, get_or, map, Option, Some, None, inl, inr, refl, sym, ◌∙◌, ap, subst, arith}
+use Rattle.std.proofs.Common.{◌≡◌, ℕ, ◌+◌, ◌<◌, ◌≤◌, Bool, true, List, [], length, get_or, map, Option, Some, None, inl, inr, refl, sym, ◌∙◌, ap, subst, arith}
 use Rattle.std.specs.Prelude.{IfSome, ⊤, AllPairs}
 use Rattle.std.specs.List.{filter, All, AllZip, Contains}
 use Rattle.std.specs.List.Sorted.{IsPermutation}
@@ -19,12 +19,12 @@ use Rattle.pf_model.specs.Criterion.{Criterion}
 use Rattle.pf_model.specs.Domains.{particles_of, domain_box}
 use Rattle.pf_model.specs.Totals.{Totals, IsTotals}
 use Rattle.pf_model.specs.Sums.{moment_of}
-use Rattle.pf_model.specs.Interaction.{level_of, leads_to_cell, entry_at, entry_of, list_of}
+use Rattle.pf_model.specs.Interaction.{level_of, leads_to_cell, entry_at, entry_of, comes_before, IsInListOrder, list_of}
 use Rattle.pf_model.specs.Sufficiency.{lies_in, moment_together}
 use Rattle.model_laws.specs.SufficiencyLaws.{EntriesAddUpTheirItems}
 use Rattle.model_laws.specs.ListLaws.{ListsHoldTheirEntries, EntryOrderIsStrict}
 use Rattle.model_laws.specs.MomentLaws.{EntriesJoinInAnyOrder, MomentsKeepTheirLimits}
-use Rattle.order_laws.specs.OrderLaws.{TestsKeepPermutations}
+use Rattle.order_laws.specs.OrderLaws.{AreDifferent, DifferentInAnyOrder, DifferentAreFew, TestsKeepPermutations, TestsKeepSpans}
 use Rattle.model_laws.specs.ParticleLaws.{SomeHaveDistinctIds}
 use Rattle.cell_runs.specs.declared.cell_run.CellRun.{CellRun}
 use Rattle.cell_runs.specs.CellRuns.{IsPlaceOf, IsWholeCell, IsCellRun, AreCellRuns}
@@ -32,12 +32,11 @@ use Rattle.cell_runs.specs.RunLaws.{RunsHoldEachPlace, RunsRise}
 use Rattle.group_lists.specs.Keyed.{item_position, items_at, IsPieceOfRun}
 use Rattle.group_lists.specs.Runs.{HasEntriesOf}
 use Rattle.group_lists.specs.PieceLaws.{ItemsMakePieces}
+use Rattle.group_lists.proofs.ElementLemmas.{zip_at, zip_first, zip_second}
 use Rattle.group_lists.proofs.CellLemmas.{NonePassesBelow}
-use Rattle.group_lists.proofs.MergeLemmas.{ascends}
 use Rattle.group_lists.proofs.TotalLemmas.{length-filter-le}
 use Rattle.group_lists.proofs.PositionLemmas.{PositionLaws, AreNested, passes_inner, is_deep, corner_in, item_shares_at, item_level, item_is_near}
-use Rattle.group_lists.proofs.OccupiedLemmas.{same_octant, octant_same, head_or_rest, served_tree}
-use Rattle.group_lists.proofs.ApartLemmas.{Apart, apart_permutation, apart_at, apart_order, no_more_than, segment}
+use Rattle.group_lists.proofs.OccupiedLemmas.{same_octant, octant_same, served_tree}
 
 -- what this rests on
 pub record ItemLaws : Type 0 where
@@ -47,13 +46,13 @@ pub record ItemLaws : Type 0 where
   pub add_up : EntriesAddUpTheirItems
   pub joins : EntriesJoinInAnyOrder
   pub tests : TestsKeepPermutations Entry
+  pub spans : TestsKeepSpans Entry
+  pub different : DifferentInAnyOrder Entry
+  pub few : DifferentAreFew Entry
   pub strict : EntryOrderIsStrict
   pub limits : MomentsKeepTheirLimits
   pub each_place : RunsHoldEachPlace
   pub rise : RunsRise
-
-more_in : {X : Type 0} (y : X) (ys : List X) (x : X) → Contains ys x → Contains (y ∷ ys) x
-more_in y ys x h = (suc h.0, (let within : h.0 < length ys = h.1 in omega arith), h.2)
 
 -- which entry an entry is
 abbrev cell_or : Octant → Entry → Octant
@@ -81,6 +80,14 @@ leads_to_it t box js j (Some level) c m e =
 leads_to_none : (t : Criterion) (box : Bounds) (js : List Particle) (j p : Particle) (o : Option ℕ) → entry_at t box js j o ≡ One p → o ≡ None
 leads_to_none t box js j p None e = refl
 leads_to_none t box js j p (Some level) e = absurd (one_is_no_cell p (cell_at j.at level) _ (sym e))
+
+abbrev no_run : CellRun
+no_run = record { first = 0; len = 0; level = None }
+
+-- entries in order differ
+order_differs : EntryOrderIsStrict → (es : List Entry) → IsInListOrder es → AreDifferent es
+order_differs strict es order i k d less within same =
+    strict.irreflexive (get_or es i d) (subst (λ (f : Entry). comes_before (get_or es i d) f ≡ true) (sym same) (order i k d less within))
 
 module _ (positions : PositionLaws) (nest : CellsOfAPositionNest) (t : Criterion) (inner outer : Bounds) (nested : AreNested inner outer) (js : List Particle) where
   -- whether an item lies in a cell, and whether it has its place there
@@ -195,7 +202,7 @@ module _ (laws : ItemLaws) (t : Criterion) (inner outer : Bounds) (nested : AreN
           let test : Entry → Bool = λ f. lies_in f (Cell run_cell run_moment) in
           laws.add_up t inner outer js (Cell run_cell run_moment) nested.inner_is nested.outer_is nested.within distinct listed
           ∙ laws.joins (filter test (list_of t outer js)) (filter test items) (laws.tests test (list_of t outer js) items same)
-          ∙ ap moment_together (segment test items r.first r.len inside_items (λ k e within least less. lies_at run_moment k e within (least, less)) (λ k e within lies. place_from run_moment k e within lies))
+          ∙ ap moment_together (laws.spans test items r.first r.len inside_items (λ k e within. (place_from run_moment k e within, lies_at run_moment k e within)))
 
     -- the piece of the run is the entry of each particle of its items
     piece_entry : (o : Option ℕ) → r.level ≡ o → (e : Entry) → IsPieceOfRun items r o e → (k : ℕ) (d : Entry) (j : Particle) → IsPlaceOf r k → get_or items k d ≡ entry_of t outer js j → entry_of t inner js j ≡ e
@@ -220,8 +227,8 @@ module _ (laws : ItemLaws) (t : Criterion) (inner outer : Bounds) (nested : AreN
         )
 
   -- two runs, one after the other, make different pieces
-  runs_differ : Apart items → (r s : CellRun) → IsCellRun t inner places r → IsCellRun t inner places s → r.first + r.len ≤ s.first → (o : Option ℕ) → r.level ≡ o → (e : Entry) → IsPieceOfRun items r o e → IsPieceOfRun items s s.level e → ⊥
-  runs_differ apart r s run later rise None level_is e first second =
+  runs_differ : AreDifferent items → (r s : CellRun) → IsCellRun t inner places r → IsCellRun t inner places s → r.first + r.len ≤ s.first → (o : Option ℕ) → r.level ≡ o → (e : Entry) → IsPieceOfRun items r o e → IsPieceOfRun items s s.level e → ⊥
+  runs_differ different r s run later rise None level_is e first second =
       let mine = item_from r.first e (first_within r run) in
       let other = item_from s.first e (first_within s later) in
       let near = particle_level r run r.first e mine.0 (first_place r run) mine.2 ∙ level_is in
@@ -230,8 +237,8 @@ module _ (laws : ItemLaws) (t : Criterion) (inner outer : Bounds) (nested : AreN
       let none : s.level ≡ None = sym (particle_level s later s.first e other.0 (first_place s later) other.2) ∙ leads_to_none t inner js other.0 mine.0 (level_of t inner other.0.at) (theirs ∙ one) in
       let there : get_or items s.first e ≡ e = subst (λ (o : Option ℕ). IsPieceOfRun items s o e) none second in
       let some = run.some in
-      apart_at items r.first s.first e apart (omega arith) (first_within s later) (first ∙ sym there)
-  runs_differ apart r s run later rise (Some level) level_is e first second =
+      different r.first s.first e (omega arith) (first_within s later) (first ∙ sym there)
+  runs_differ different r s run later rise (Some level) level_is e first second =
       let other = item_from s.first e (first_within s later) in
       let j = other.0 in
       let theirs : entry_of t inner js j ≡ e = piece_entry s later s.level refl e second s.first e j (first_place s later) other.2 in
@@ -249,46 +256,17 @@ module _ (laws : ItemLaws) (t : Criterion) (inner outer : Bounds) (nested : AreN
       let less = place.1 in
       absurd (omega arith)
 
-  -- what stands beside what in two lists
-  zip_second : {A B : Type 0} (R : A → B → Type 0) (xs : List A) (ys : List B) (y : B) → AllZip R xs ys → Contains ys y → (x : A) × Contains xs x × R x y
-  zip_second R [] [] y all h = absurd (omega (arith, h.1))
-  zip_second R [] (b ∷ bs) y all h = absurd all
-  zip_second R (a ∷ more) [] y all h = absurd all
-  zip_second R (a ∷ more) (b ∷ bs) y all h =
-      elim (head_or_rest b bs y h) [
-        | inl is ↦ (a, (0, omega arith, refl), subst (R a) is all.0)
-        | inr rest ↦ (let found = zip_second R more bs y all.1 rest in (found.0, more_in a more found.0 found.1, found.2))
-      ]
-
-  zip_first : {A B : Type 0} (R : A → B → Type 0) (xs : List A) (ys : List B) (x : A) → AllZip R xs ys → Contains xs x → (y : B) × Contains ys y × R x y
-  zip_first R [] ys x all h = absurd (omega (arith, h.1))
-  zip_first R (a ∷ more) [] x all h = absurd all
-  zip_first R (a ∷ more) (b ∷ bs) x all h =
-      elim (head_or_rest a more x h) [
-        | inl is ↦ (b, (0, omega arith, refl), subst (λ v. R v b) is all.0)
-        | inr rest ↦ (let found = zip_first R more bs x all.1 rest in (found.0, more_in b bs found.0 found.1, found.2))
-      ]
-
   abbrev Makes : CellRun → Entry → Type 0
   Makes r e = IsPieceOfRun items r r.level e
 
   -- so pieces differ
-  pieces_apart : Apart items → (runs : List CellRun) (pieces : List Entry) → All (IsCellRun t inner places) runs → AllPairs (λ r s. r.first + r.len ≤ s.first) runs → AllZip Makes runs pieces → Apart pieces
-  pieces_apart apart [] [] each rise all = tt
-  pieces_apart apart [] (e ∷ es) each rise all = absurd all
-  pieces_apart apart (r ∷ rs) [] each rise all = absurd all
-  pieces_apart apart (r ∷ rs) (e ∷ es) each rise all =
-      let rest : All (IsCellRun t inner places) rs = λ k d within. each (suc k) d (omega arith) in (
-        λ there.
-            let found = zip_second Makes rs es e all.1 there in
-            let s = found.0 in
-            let k = found.1.0 in
-            let less : k < length rs = found.1.1 in
-            let after : r.first + r.len ≤ (get_or rs k s).first = rise 0 (suc k) s (omega arith) (omega arith) in
-            let before : r.first + r.len ≤ s.first = subst (λ (v : CellRun). r.first + r.len ≤ v.first) found.1.2 after in
-            runs_differ apart r s (each 0 r (omega arith)) (All-contains (IsCellRun t inner places) rs s rest found.1) before r.level refl e all.0 found.2,
-        pieces_apart apart rs es rest (λ i k d less within. rise (suc i) (suc k) d (omega arith) (omega arith)) all.1,
-      )
+  pieces_differ : AreDifferent items → (runs : List CellRun) (pieces : List Entry) → All (IsCellRun t inner places) runs → AllPairs (λ r s. r.first + r.len ≤ s.first) runs → AllZip Makes runs pieces → AreDifferent pieces
+  pieces_differ different runs pieces each rise all i k d less within same =
+      let first = zip_at Makes runs pieces i no_run d all (omega arith) in
+      let second = zip_at Makes runs pieces k no_run d all within in
+      let r = get_or runs i no_run in
+      let s = get_or runs k no_run in
+      runs_differ different r s (each i no_run first.0) (each k no_run second.0) (rise i k no_run less second.0) r.level refl (get_or pieces i d) first.1 (subst (Makes s) (sym same) second.1)
 
   -- the pieces of all runs are the entries of the particles, each once
   module _ (runs : List CellRun) (are : AreCellRuns t inner places runs) (pieces : List Entry) (all : AllZip Makes runs pieces) where
@@ -318,9 +296,9 @@ module _ (laws : ItemLaws) (t : Criterion) (inner outer : Bounds) (nested : AreN
     pub pieces_are_few : length pieces ≤ length (list_of t inner js)
     pieces_are_few =
         let list = (laws.entries t outer js (list_of t outer js) distinct).1 refl in
-        let apart = apart_permutation (list_of t outer js) items same (apart_order laws.strict (list_of t outer js) (ascends (list_of t outer js) list.ordered)) in
+        let different = laws.different (list_of t outer js) items same (order_differs laws.strict (list_of t outer js) list.ordered) in
         let mine = (laws.entries t inner js (list_of t inner js) distinct).1 refl in
-        no_more_than pieces (list_of t inner js) (pieces_apart apart runs pieces are.each (laws.rise 0 (length places) runs are.in_turn) all)
+        laws.few (list_of t inner js) pieces (pieces_differ different runs pieces are.each (laws.rise 0 (length places) runs are.in_turn) all)
         (λ e there. let from = pieces_sound e there in subst (Contains (list_of t inner js)) (sym from.2) (mine.complete from.0 from.1))
 
 pub items_make_pieces : ItemLaws → SomeHaveDistinctIds → ItemsMakePieces

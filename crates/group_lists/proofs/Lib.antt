@@ -1,3 +1,4 @@
+pub mod ElementLemmas
 pub mod CellLemmas
 pub mod SearchLemmas
 pub mod KeyedLemmas
@@ -5,7 +6,6 @@ pub mod TotalLemmas
 pub mod PieceLemmas
 pub mod PositionLemmas
 pub mod OccupiedLemmas
-pub mod ApartLemmas
 pub mod MergeLemmas
 pub mod OrderLemmas
 pub mod GatherLemmas

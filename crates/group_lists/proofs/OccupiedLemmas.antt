@@ -1,13 +1,14 @@
 -- The pieces in whose cell something stands that was gathered before.
-use Rattle.std.proofs.Common.{◌≡◌, ℕ, zero, suc, ◌+◌, ◌<◌, ◌≤◌, Bool, true, false, cond, ◌||◌, List, [], ◌∷◌, length, map, Option, Some, None, inl, inr, ◌⊎◌, refl, sym, ◌∙◌, ap, subst, arith, nat_eq}
-use Rattle.std.specs.List.{filter, list_any, count_by, Contains}
+use Rattle.std.proofs.Common.{◌≡◌, ℕ, suc, ◌+◌, ◌<◌, ◌≤◌, Bool, true, false, cond, ◌||◌, List, [], ◌∷◌, length, map, Option, Some, None, inl, inr, refl, sym, ◌∙◌, ap, subst, arith, nat_eq}
+use Rattle.std.specs.List.{list_any, count_by, Contains}
 use Rattle.std.specs.List.Sorted.{IsPermutation}
-use Rattle.std.proofs.lemmas.Bool.{cond_both, eqb-true, eq-eqb, or_cases, or_left, or_right, and_parts, and_from, both_ways, false_from_ne_true, true≢false, ltb-false, not-true, not_from_false}
+use Rattle.std.proofs.lemmas.Bool.{eqb-true, eq-eqb, or_cases, or_left, or_right, and_parts, and_from, false_from_ne_true, true≢false, ltb-false, not-true, not_from_false}
 use Rattle.std.proofs.lemmas.List.{get_or-map, length-map}
-use Rattle.std.proofs.lemmas.List.Elements.{All-contains, filter_passes}
+use Rattle.std.proofs.lemmas.List.Elements.{All-contains}
 use Rattle.std.proofs.lemmas.List.Folds.{list_any_at}
 use Rattle.std.proofs.lemmas.List.Sums.{sum_by-cons}
 use Rattle.std.proofs.lemmas.List.Sorted.{Contains-permutation, IsPermutation-sym}
+use Rattle.order_laws.specs.OrderLaws.{TestsKeepWhatPasses}
 use Rattle.pf_geom.specs.Position.{Position}
 use Rattle.pf_geom.specs.Bounds.{Bounds}
 use Rattle.pf_geom.specs.Octant.{Octant, IsCell, cell_at, ancestor_at}
@@ -32,6 +33,7 @@ use Rattle.morton_tree.specs.declared.group.Group.{Group}
 use Rattle.group_lists.specs.Gathering.{Gathering, IsNewSource, IsSentTo, CanAbsorb}
 use Rattle.group_lists.specs.Keyed.{IsServed, item_position}
 use Rattle.group_lists.specs.Pieces.{is_occupied}
+use Rattle.group_lists.proofs.ElementLemmas.{contains_more, head_or_rest}
 use Rattle.group_lists.proofs.CellLemmas.{NonePassesBelow}
 use Rattle.group_lists.proofs.MergeLemmas.{level_octant}
 use Rattle.group_lists.proofs.PositionLemmas.{PositionLaws, AreNested, item_shares_at, item_shares_from}
@@ -65,31 +67,6 @@ found_in p (x ∷ xs) e =
 
 any_from : {X : Type 0} (p : X → Bool) (xs : List X) (x : X) → Contains xs x → p x ≡ true → list_any p xs ≡ true
 any_from p xs x h e = list_any_at p xs h.0 x h.1 (ap p h.2 ∙ e)
-
-contains_more : {X : Type 0} (y : X) (ys : List X) (x : X) → Contains ys x → Contains (y ∷ ys) x
-contains_more y ys x h = (suc h.0, (let within : h.0 < length ys = h.1 in omega arith), h.2)
-
-pub contains_kept : {X : Type 0} (test : X → Bool) (xs : List X) (x : X) → Contains xs x → test x ≡ true → Contains (filter test xs) x
-contains_kept test [] x h e = absurd (omega (arith, h.1))
-contains_kept test (y ∷ ys) x (zero, within, at) e =
-    cond_both (test y) (y ∷ filter test ys) (filter test ys) (λ l. Contains l x) (λ _. (zero, omega arith, at)) (λ f. absurd (both_ways (test y) f (ap test at ∙ e)))
-contains_kept test (y ∷ ys) x (suc k, within, at) e =
-    let rest = contains_kept test ys x (k, omega arith, at) e in
-    cond_both (test y) (y ∷ filter test ys) (filter test ys) (λ l. Contains l x) (λ _. contains_more y (filter test ys) x rest) (λ _. rest)
-
-pub head_or_rest : {X : Type 0} (y : X) (zs : List X) (x : X) → Contains (y ∷ zs) x → (y ≡ x) ⊎ Contains zs x
-head_or_rest y zs x (zero, within, at) = inl at
-head_or_rest y zs x (suc k, within, at) = inr (k, omega arith, at)
-
-pub contains_from : {X : Type 0} (test : X → Bool) (xs : List X) (x : X) → Contains (filter test xs) x → Contains xs x
-contains_from test [] x h = h
-contains_from test (y ∷ ys) x h =
-    let rest = contains_from test ys x in
-    cond_both (test y) (y ∷ filter test ys) (filter test ys) (λ l. Contains l x → Contains (y ∷ ys) x)
-    (λ _ i. elim (head_or_rest y (filter test ys) x i) [ inl e ↦ (0, omega arith, e) | inr k ↦ contains_more y ys x (rest k) ]) (λ _ i. contains_more y ys x (rest i)) h
-
-passes_kept : {X : Type 0} (test : X → Bool) (xs : List X) (x : X) → Contains (filter test xs) x → test x ≡ true
-passes_kept test xs x h = All-contains (λ y. test y ≡ true) (filter test xs) x (filter_passes test xs) h
 
 -- what a list seen through a function has
 pub mapped_from : {X Y : Type 0} (h : X → Y) (xs : List X) (y : Y) → Contains (map h xs) y → (x : X) × Contains xs x × (h x ≡ y)
@@ -165,6 +142,7 @@ pub record ListLaws : Type 0 where
   pub some : SomeHaveDistinctIds
   pub ids : ParticlesOfOneIdAreOne
   pub one_rank : OneRankHasItsOwn
+  pub passing : TestsKeepWhatPasses Particle
   pub strict : EntryOrderIsStrict
 
 module _ (laws : ListLaws) (t : Criterion) (g : Division) (js : List Particle) (gather : Gathering) (src : ℕ) (group : Group) (theta : Criterion) (trees : List Essential) (bodies : AreBodies js) (new : IsNewSource g gather src)
@@ -224,8 +202,8 @@ module _ (laws : ListLaws) (t : Criterion) (g : Division) (js : List Particle) (
       elim (or_cases _ _ e) [
         | inl h ↦
             let found = found_in (in_cell c) gather.own h in
-            let mine = Contains-permutation gather.own (particles_of g js gather.rank) found.0 own found.1 in
-            (found.0, contains_kept owned_before js found.0 (contains_from (owned_by gather.rank) js found.0 mine) (or_left _ _ (passes_kept (owned_by gather.rank) js found.0 mine)), found.2)
+            let own_is = (laws.passing (owned_by gather.rank) js found.0).0 (Contains-permutation gather.own (particles_of g js gather.rank) found.0 own found.1) in
+            (found.0, (laws.passing owned_before js found.0).1 (own_is.0, or_left _ _ own_is.1), found.2)
         | inr h ↦
             let at_tree = found_in (λ (tree : Essential). list_any (item_in c) tree.items) trees h in
             let tree = at_tree.0 in
@@ -234,24 +212,24 @@ module _ (laws : ListLaws) (t : Criterion) (g : Division) (js : List Particle) (
             let j = from.0 in
             let place : cell_at (item_position (entry_of t domain (particles_of g js tree.src) j)) c.level ≡ c = same_octant c _ (ap (item_in c) (sym from.2) ∙ at_item.2) in
             let shared = item_shares_from laws.positions t box domain nested (particles_of g js tree.src) j c.level (none_above c is first _ place) in
-            let owner_is = passes_kept (owned_by tree.src) js j from.1 in
+            let owner_is = (laws.passing (owned_by tree.src) js j).0 from.1 in
             let source : Contains gather.absorbed tree.src = subst (λ (l : List ℕ). Contains l tree.src) (sym absorbs.sources) (mapped_in (λ (s : Essential). s.src) trees tree at_tree.1) in
-            (j, contains_kept owned_before js j (contains_from (owned_by tree.src) js j from.1) (or_right _ _ (any_from (nat_eq (owner g js j.at)) gather.absorbed tree.src source owner_is)), octant_same c _ (sym shared ∙ place))
+            (j, (laws.passing owned_before js j).1 (owner_is.0, or_right _ _ (any_from (nat_eq (owner g js j.at)) gather.absorbed tree.src source owner_is.1)), octant_same c _ (sym shared ∙ place))
       ]
 
   occupied_from : (c : Octant) → IsCell c → IsFirstCell t box c → (j : Particle) → Contains before j → in_cell c j ≡ true → (list_any (in_cell c) gather.own || list_any (λ tree. list_any (item_in c) tree.items) trees) ≡ true
   occupied_from c is first j there e =
-      let all = contains_from owned_before js j there in
-      elim (or_cases _ _ (passes_kept owned_before js j there)) [
+      let owned = (laws.passing owned_before js j).0 there in
+      elim (or_cases _ _ owned.1) [
         | inl h ↦
-            let mine = Contains-permutation (particles_of g js gather.rank) gather.own j (IsPermutation-sym gather.own (particles_of g js gather.rank) own) (contains_kept (owned_by gather.rank) js j all h) in
+            let mine = Contains-permutation (particles_of g js gather.rank) gather.own j (IsPermutation-sym gather.own (particles_of g js gather.rank) own) ((laws.passing (owned_by gather.rank) js j).1 (owned.0, h)) in
             or_left _ _ (any_from (in_cell c) gather.own j mine e)
         | inr h ↦
             let at_rank = found_in (nat_eq (owner g js j.at)) gather.absorbed h in
             let at_tree = mapped_from (λ (s : Essential). s.src) trees at_rank.0 (subst (λ (l : List ℕ). Contains l at_rank.0) absorbs.sources at_rank.1) in
             let tree = at_tree.0 in
             let owner_is : owned_by tree.src j ≡ true = ap (nat_eq (owner g js j.at)) at_tree.2 ∙ at_rank.2 in
-            let mine = contains_kept (owned_by tree.src) js j all owner_is in
+            let mine = (laws.passing (owned_by tree.src) js j).1 (owned.0, owner_is) in
             let item = entry_of t domain (particles_of g js tree.src) j in
             let place = same_octant c (cell_at j.at c.level) e in
             let shared = item_shares_at laws.positions t box domain nested (particles_of g js tree.src) j c.level (none_above c is first j.at place) in
@@ -264,7 +242,8 @@ module _ (laws : ListLaws) (t : Criterion) (g : Division) (js : List Particle) (
   some_in_cell c some =
       let members = particles_in c before in
       let first = first_of_list members some in
-      (first.0, contains_from (in_cell c) before first.0 first.1, passes_kept (in_cell c) before first.0 first.1)
+      let passes = (laws.passing (in_cell c) before first.0).0 first.1 in
+      (first.0, passes.0, passes.1)
 
   cells_in_common : (c : Octant) (m : Totals) → IsCell c → IsFirstCell t box c → is_occupied gather.own trees (Cell c m) ≡ list_any (is_level (Cell c m)) (list_of t box before)
   cells_in_common c m is first =
@@ -272,7 +251,7 @@ module _ (laws : ListLaws) (t : Criterion) (g : Division) (js : List Particle) (
       same_from_both _ _
       (λ e.
       let found = some_before c is first e in
-      let some : 1 ≤ length (particles_in c before) = count_some (particles_in c before) found.0 (contains_kept (in_cell c) before found.0 found.1 found.2) in
+      let some : 1 ≤ length (particles_in c before) = count_some (particles_in c before) found.0 ((laws.passing (in_cell c) before found.0).1 (found.1, found.2)) in
       let n = moment_of (particles_in c before) in
       any_from (is_level (Cell c m)) (list_of t box before) (Cell c n) ((laws.first_cells t box before c n distinct is).1 (first, some, refl)) (level_with_itself laws.strict c m n))
       (λ e.
@@ -291,9 +270,11 @@ module _ (laws : ListLaws) (t : Criterion) (g : Division) (js : List Particle) (
       let q = same.0 in
       let other = ((laws.near t box before q distinct).0 (subst (Contains (list_of t box before)) same.1 found.1)).0 in
       let own_p = subst (λ (l : List Particle). Contains l p) (laws.one_rank g js src) mine in
-      let one : p ≡ q = laws.ids js p q bodies.distinct (contains_from (owned_by src) js p own_p) (contains_from owned_before js q other) same.2 in
-      let owner_p = eqb-true (owner g js p.at) src (passes_kept (owned_by src) js p own_p) in
-      let owner_q = found_in (nat_eq (owner g js q.at)) (gather.rank ∷ gather.absorbed) (passes_kept owned_before js q other) in
+      let here = (laws.passing (owned_by src) js p).0 own_p in
+      let there = (laws.passing owned_before js q).0 other in
+      let one : p ≡ q = laws.ids js p q bodies.distinct here.0 there.0 same.2 in
+      let owner_p = eqb-true (owner g js p.at) src here.1 in
+      let owner_q = found_in (nat_eq (owner g js q.at)) (gather.rank ∷ gather.absorbed) there.1 in
       let owners : owner_q.0 ≡ src = sym (eqb-true (owner g js q.at) owner_q.0 owner_q.2) ∙ ap (λ (v : Particle). owner g js v.at) (sym one) ∙ owner_p in
       new.new (subst (Contains (gather.rank ∷ gather.absorbed)) owners owner_q.1)))
 

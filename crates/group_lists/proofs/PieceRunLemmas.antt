@@ -23,7 +23,7 @@ use Rattle.cell_runs.specs.CellRuns.{AreCellRuns}
 use Rattle.group_lists.specs.Keyed.{IsKeyed, IsServed, item_position, item_key, items_at, IsPieceOfRun}
 use Rattle.group_lists.specs.Runs.{HasEntriesOf}
 use Rattle.group_lists.specs.PieceLaws.{ItemsMakePieces}
-use Rattle.group_lists.proofs.GatherLemmas.{map-map}
+use Rattle.group_lists.proofs.ElementLemmas.{map-map}
 
 -- the key of an item, shifted, is that of a cell
 pub key_in_octant : PositionsHaveCells → (items : List Entry) (keys : List ℕ) (first k level : ℕ) → keys ≡ map item_key items → first < length items → k ≡ get_or keys first k → level ≤ 30 → IsOctant level (k / 8 ^ (30 - level))

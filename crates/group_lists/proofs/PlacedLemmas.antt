@@ -24,6 +24,7 @@ use Rattle.pf_model.specs.EssentialTree.{tree_for, essential_tree}
 use Rattle.group_lists.specs.declared.key_order.KeyPlace.{KeyPlace}
 use Rattle.group_lists.specs.Keyed.{item_key, ArePlaced}
 use Rattle.group_lists.specs.Indexed.{HaveDistinctPlaces}
+use Rattle.group_lists.proofs.ElementLemmas.{map-map}
 
 abbrev pub order_place : KeyPlace → ℕ
 order_place o = o.place
@@ -72,10 +73,6 @@ rise_along key (x ∷ xs) keys is up i j d least within =
     let low = at i (omega arith) in
     let high = at j (omega arith) in
     omega arith
-
-pub map-map : {X Y Z : Type 0} (f : Y → Z) (g : X → Y) (xs : List X) → map f (map g xs) ≡ map (λ x. f (g x)) xs
-map-map f g [] = refl
-map-map f g (x ∷ xs) = ap (λ l. f (g x) ∷ l) (map-map f g xs)
 
 map_agree : {X Y : Type 0} (f g : X → Y) (xs : List X) → All (λ x. f x ≡ g x) xs → map f xs ≡ map g xs
 map_agree f g [] h = refl

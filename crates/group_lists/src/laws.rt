@@ -13,11 +13,14 @@ use model_laws::{
     one_rank_has_its_own, particles_of_one_id_are_one, ranks_have_their_own,
     some_have_distinct_ids,
 };
-use order_laws::tests_keep_permutations;
+use order_laws::{
+    different_are_few, different_in_any_order, tests_keep_permutations, tests_keep_spans,
+    tests_keep_what_passes,
+};
 use pf_geom::{
     cells_of_a_position_nest, corners_lie_inside, positions_have_cells, positions_share_lower_cells,
 };
-use pf_model::Entry;
+use pf_model::{Body, Entry};
 
 // The list of a group with one source more is its list and the pieces, merged.
 pub(crate) fn pieces_make_lists()
@@ -60,6 +63,7 @@ pub(crate) fn common_pieces_are_occupied()
     one_rank_has_its_own();
     some_have_distinct_ids();
     particles_of_one_id_are_one();
+    tests_keep_what_passes::<Body>();
     entry_order_is_strict();
 }
 
@@ -85,6 +89,9 @@ pub(crate) fn items_make_pieces()
     entries_add_up_their_items();
     entries_join_in_any_order();
     tests_keep_permutations::<Entry>();
+    tests_keep_spans::<Entry>();
+    different_in_any_order::<Entry>();
+    different_are_few::<Entry>();
     entry_order_is_strict();
     moments_keep_their_limits();
     runs_hold_each_place();

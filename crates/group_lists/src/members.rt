@@ -6,7 +6,8 @@ ghost use Rattle.group_lists.specs.Listing.{OfGroup, OfEntry, OfSource, IsSpanOf
 
 use crate::lists::Lists;
 use morton_tree::Span;
-use pf_model::MOST_PARTICLES;
+use order_laws::tests_keep_spans;
+use pf_model::{Body, Entry, MOST_PARTICLES};
 
 impl Lists {
     /// Where the own bodies stand, in the tree of the build, that lie in an entry: the one at a place of a group's list.
@@ -17,6 +18,7 @@ impl Lists {
         ensures bodies { OfEntry self.now.groups group place (λ e.
             at_span result self.now.built ≡ filter (body_lies_in e) self.now.built) }
     {
+        tests_keep_spans::<Body>();
         let entry = &self.listed[group as usize].entries[place as usize];
         self.index.span_in(entry)
     }
@@ -57,6 +59,7 @@ impl Lists {
         ensures items { OfSource self.now.sources source (λ s. OfEntry self.now.groups group place (λ e.
             items_at_span result s.items ≡ items_in e s.items)) }
     {
+        tests_keep_spans::<Entry>();
         let entry = &self.listed[group as usize].entries[place as usize];
         self.sources[source].index.span_in(entry)
     }

@@ -18,5 +18,6 @@ returns c t g js gather src group theta trees bodies new own absorbs served =
       some = c.some_have_distinct_ids.ensures;
       ids = c.particles_of_one_id_are_one.ensures;
       one_rank = c.one_rank_has_its_own.ensures;
+      passing = c.tests_keep_what_passes.ensures;
       strict = c.entry_order_is_strict.ensures;
     }) t g js gather src group theta trees bodies new own absorbs served

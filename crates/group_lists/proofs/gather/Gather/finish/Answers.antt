@@ -13,7 +13,8 @@ use Rattle.group_lists.specs.Listing.{IsSource}
 use Rattle.group_lists.specs.Indexed.{IsIndexOf, as_items, group_list, source_items}
 use Rattle.group_lists.specs.Whole.{GroupList}
 use Rattle.group_lists.proofs.FinishLemmas.{own_few, own_distinct, sources_kept, lists_whole}
-use Rattle.group_lists.proofs.GatherLemmas.{list_round, whole_partial, listed_each, map-map}
+use Rattle.group_lists.proofs.ElementLemmas.{map-map}
+use Rattle.group_lists.proofs.GatherLemmas.{list_round, whole_partial, listed_each}
 use Rattle.group_lists.proofs.gather.Gather.finish.Given as given
 use Rattle.group_lists.proofs.gather.Gather.finish.Goals as goal
 

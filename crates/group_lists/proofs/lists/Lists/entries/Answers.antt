@@ -5,7 +5,8 @@ use Rattle.group_lists.specs.declared.listed.Listed.{Listed}
 use Rattle.group_lists.specs.Indexed.{group_list}
 use Rattle.group_lists.specs.Listing.{Listing}
 use Rattle.group_lists.specs.Whole.{GroupList, HasMembers, IsListed}
-use Rattle.group_lists.proofs.GatherLemmas.{map-map, read_through, place_within}
+use Rattle.group_lists.proofs.ElementLemmas.{map-map}
+use Rattle.group_lists.proofs.GatherLemmas.{read_through, place_within}
 use Rattle.group_lists.proofs.ListsLemmas.{there_at}
 use Rattle.group_lists.proofs.lists.Lists.entries.Goals as goal
 

@@ -5,7 +5,6 @@ use Rattle.group_lists.specs.declared.kept_source.KeptSource.{KeptSource}
 use Rattle.group_lists.specs.Listing.{Listing, SourceItems, IsSpanOf}
 use Rattle.group_lists.specs.Indexed.{group_list, source_items}
 use Rattle.group_lists.proofs.GatherLemmas.{place_within, read_through}
-use Rattle.group_lists.proofs.IndexLemmas.{span_is_filter}
 use Rattle.group_lists.proofs.ListsLemmas.{entry_read, place_inside, there_at, same_some}
 use Rattle.group_lists.proofs.lists.Lists.items_in.Goals as goal
 
@@ -43,4 +42,6 @@ returns-clause-exactly c = λ r at_r e g at_g at_e.
     (subst (λ (d : Entry). IsSpanOf (λ f. lies_in f d) s.items.items c.span_in.result) same span)
 
 pub returns-clause-items : goal.returns-clause-items
-returns-clause-items c = λ r at_r e g at_g at_e. span_is_filter (λ (f : Entry). lies_in f e) r.items c.span_in.result (returns-clause-exactly c r at_r e g at_g at_e)
+returns-clause-items c = λ r at_r e g at_g at_e.
+    let span = returns-clause-exactly c r at_r e g at_g at_e in
+    sym (c.tests_keep_spans.ensures (λ (f : Entry). lies_in f e) r.items c.span_in.result.first c.span_in.result.len span.inside span.exactly)

@@ -1,10 +1,9 @@
-use Rattle.std.proofs.Common.{◌≡◌, ◌<◌, List, length, ap, subst, arith}
+use Rattle.std.proofs.Common.{◌≡◌, ◌<◌, List, length, sym, ap, subst, arith}
 use Rattle.pf_model.specs.declared.entry.Entry.{Entry}
 use Rattle.pf_model.specs.Particle.{Particle}
 use Rattle.group_lists.specs.Listing.{Listing, IsSpanOf, body_lies_in}
 use Rattle.group_lists.specs.Indexed.{group_list, as_items}
 use Rattle.group_lists.proofs.GatherLemmas.{place_within}
-use Rattle.group_lists.proofs.IndexLemmas.{span_is_filter}
 use Rattle.group_lists.proofs.ListsLemmas.{entry_read, place_inside, own_by_place, span_of_own}
 use Rattle.group_lists.proofs.lists.Lists.own_in.Goals as goal
 
@@ -36,4 +35,6 @@ returns-clause-exactly c = λ e g at_g at_e.
     (subst (λ (f : Entry). IsSpanOf (body_lies_in f) built c.span_in.result) same span)
 
 pub returns-clause-bodies : goal.returns-clause-bodies
-returns-clause-bodies c = λ e g at_g at_e. span_is_filter (body_lies_in e) c.args.self.now.built c.span_in.result (returns-clause-exactly c e g at_g at_e)
+returns-clause-bodies c = λ e g at_g at_e.
+    let span = returns-clause-exactly c e g at_g at_e in
+    sym (c.tests_keep_spans.ensures (body_lies_in e) c.args.self.now.built c.span_in.result.first c.span_in.result.len span.inside span.exactly)

@@ -6,7 +6,8 @@ use Rattle.std.proofs.lemmas.List.Sorted.{length_permutation}
 use Rattle.group_lists.specs.declared.kept_source.KeptSource.{KeptSource}
 use Rattle.group_lists.specs.Indexed.{IsKept, source_items}
 use Rattle.group_lists.specs.Listing.{Listing, SourceItems}
-use Rattle.group_lists.proofs.GatherLemmas.{map-map, read_through, place_within}
+use Rattle.group_lists.proofs.ElementLemmas.{map-map}
+use Rattle.group_lists.proofs.GatherLemmas.{read_through, place_within}
 use Rattle.group_lists.proofs.ListsLemmas.{there_at, same_some}
 use Rattle.group_lists.proofs.lists.Lists.sent_places.Goals as goal
 

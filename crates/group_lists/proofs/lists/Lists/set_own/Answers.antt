@@ -2,7 +2,7 @@ use Rattle.std.proofs.Common.{◌≡◌, List, map, sym, ◌∙◌, ap}
 use Rattle.pf_model.specs.Particle.{Particle}
 use Rattle.group_lists.specs.Listing.{Listing, with_bodies}
 use Rattle.group_lists.specs.Indexed.{group_list}
-use Rattle.group_lists.proofs.GatherLemmas.{map-map}
+use Rattle.group_lists.proofs.ElementLemmas.{map-map}
 use Rattle.group_lists.proofs.lists.Lists.set_own.Goals as goal
 
 pub returns : goal.returns

@@ -2,7 +2,8 @@ use Rattle.std.proofs.Common.{◌≡◌, ℕ, ◌<◌, List, length, map, slice_
 use Rattle.group_lists.specs.declared.kept_source.KeptSource.{KeptSource}
 use Rattle.group_lists.specs.Indexed.{source_items}
 use Rattle.group_lists.specs.Listing.{Listing, SourceItems}
-use Rattle.group_lists.proofs.GatherLemmas.{map-map, read_through, place_within}
+use Rattle.group_lists.proofs.ElementLemmas.{map-map}
+use Rattle.group_lists.proofs.GatherLemmas.{read_through, place_within}
 use Rattle.group_lists.proofs.lists.Lists.source_rank.Goals as goal
 
 pub returns : goal.returns
