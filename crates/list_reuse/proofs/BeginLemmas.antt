@@ -5,6 +5,7 @@ use Rattle.std.specs.List.Sorted.{IsPermutation}
 use Rattle.std.specs.Prelude.{nat_eq}
 use Rattle.std.proofs.lemmas.List.Elements.{All-nil, All-cons, All-head, All-tail, All-contains}
 use Rattle.std.proofs.lemmas.List.Sorted.{Contains-permutation, IsPermutation-refl}
+use Rattle.order_laws.specs.OrderLaws.{TestsKeepWhatPasses}
 use Rattle.pf_model.specs.declared.entry.Entry.{Entry}
 use Rattle.pf_model.specs.Particle.{Particle}
 use Rattle.pf_model.specs.Particles.{AreBodies}
@@ -24,7 +25,6 @@ use Rattle.group_lists.specs.Whole.{GroupList}
 use Rattle.group_lists.specs.Listing.{SourceItems, IsSource}
 use Rattle.list_reuse.specs.Keeping.{IsKeptGroup, AreOtherRanks}
 use Rattle.list_reuse.specs.KeepingLaws.{build_of, ListsOfABuildAreKept, MovedBodiesArePresent}
-use Rattle.list_reuse.proofs.ItemLemmas.{from_filter}
 use Rattle.list_reuse.proofs.RefreshLemmas.{all_found}
 
 same_heads : {X : Type 0} (x y : X) (xs ys : List X) → x ∷ xs ≡ y ∷ ys → (x ≡ y) × (xs ≡ ys)
@@ -64,12 +64,12 @@ sources_begin sent (r ∷ rs) (s ∷ ss) all =
     All-cons (λ s. IsSource (sent s.src) s.src s) s ss
     (subst (λ (n : ℕ). IsSource (sent n) n s) (sym all.0.rank) all.0) (sources_begin sent rs ss all.1)
 
-pub lists_of_a_build_are_kept : KeptListsBeginAsLists → PresentEntriesAreFound → ListsOfABuildAreKept
-lists_of_a_build_are_kept begins found t g js gather lists are limits division own groups ranks finished =
+pub lists_of_a_build_are_kept : KeptListsBeginAsLists → PresentEntriesAreFound → TestsKeepWhatPasses Particle → ListsOfABuildAreKept
+lists_of_a_build_are_kept begins found passing t g js gather lists are limits division own groups ranks finished =
     let m = build_of t g js gather.rank in
     let sent : ℕ → List Entry = λ src. essential_tree t g js src gather.rank in
     let owned = λ (j : Particle). nat_eq (owner g js j.at) gather.rank in
-    let there : (k : Particle) → Contains gather.own k → Contains js k = λ k h. (from_filter owned js k (Contains-permutation gather.own (particles_of g js gather.rank) k own h)).0 in
+    let there : (k : Particle) → Contains gather.own k → Contains js k = λ k h. ((passing owned js k).0 (Contains-permutation gather.own (particles_of g js gather.rank) k own h)).0 in
     let same : map (as_in js) gather.own ≡ gather.own = all_found found js are.distinct gather.own gather.own refl there in
     record {
       motion = record { are_bodies = are; within_limits = limits; division = division; same_ids = IsPermutation-refl (map (λ (j : Particle). j.id) js) };

@@ -25,7 +25,6 @@ use Rattle.group_lists.specs.Listing.{Listing, HasCount, HasId, with_moment}
 use Rattle.list_reuse.specs.Keeping.{Motion, IsMotion}
 use Rattle.list_reuse.specs.Renewing.{CanRenew, OfBuilt, IsSameEntry, IsGroupOfBuild, built_list, entry_now, with_group, renewed_group}
 use Rattle.list_reuse.specs.KeepLaws.{Laws}
-use Rattle.list_reuse.proofs.ItemLemmas.{from_filter}
 use Rattle.list_reuse.proofs.SumLemmas.{counted}
 use Rattle.list_reuse.proofs.RenewLemmas.{all_at, contains_at, some_at, entry_at as current_at, zip_long}
 
@@ -76,7 +75,7 @@ module _ (laws : Laws) (m : Motion) (motion : IsMotion m) (built : List Particle
       let e = entry_at m.theta box m.particles j (Some level) in
       let leads = leads_to m.theta box e in
       let members = members_of m.theta box m.particles e in
-      let found = laws.are_found m.particles members m.now motion.are_bodies.distinct (laws.some leads m.particles motion.are_bodies.distinct) (λ k i. (from_filter leads m.particles k i).0) motion.same_ids in
+      let found = laws.are_found m.particles members m.now motion.are_bodies.distinct (laws.some leads m.particles motion.are_bodies.distinct) (λ k i. ((laws.passing_particles leads m.particles k).0 i).0) motion.same_ids in
       let same = length_permutation (map (as_in m.now) members) (present m.now members) found in
       let long = length-map members (as_in m.now) in
       (refl, counted members ∙ sym (same ∙ long) ∙ sym (counted (present m.now members)))

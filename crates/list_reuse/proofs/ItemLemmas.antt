@@ -1,11 +1,10 @@
--- Places in lists: the cells that come first, what a filter keeps, and the elements of a span.
-use Rattle.std.proofs.Common.{◌≡◌, ℕ, zero, suc, ◌<◌, Bool, true, List, [], ◌∷◌, length, get_or, take, drop, Option, Some, None, refl, sym, ◌∙◌, ap, subst, arith, add-zero}
-use Rattle.std.specs.List.{slice_get, filter, Contains}
+-- Places in lists: the cells that come first, and the elements of a span.
+use Rattle.std.proofs.Common.{◌≡◌, ℕ, zero, suc, ◌<◌, List, [], ◌∷◌, length, get_or, take, drop, Option, Some, None, refl, sym, ◌∙◌, ap, subst, arith, add-zero}
+use Rattle.std.specs.List.{slice_get, Contains}
 use Rattle.std.specs.Prelude.{IsTrue}
-use Rattle.std.proofs.lemmas.Bool.{false≢true, cond_both, cond-true}
+use Rattle.std.proofs.lemmas.Bool.{false≢true}
 use Rattle.std.proofs.lemmas.Option.{none-some, same_Some}
 use Rattle.std.proofs.lemmas.List.{get_or-take, get_or-drop, get_or_default, length-take, length-drop}
-use Rattle.std.proofs.lemmas.List.Elements.{All-filter, All-contains, All-contains_itself, filter_passes}
 use Rattle.pf_geom.specs.Octant.{Octant}
 use Rattle.pf_model.specs.declared.entry.Entry.{Entry}
 use Rattle.pf_model.specs.declared.entry.Entry.TheVariants.{Cell, One}
@@ -42,24 +41,6 @@ item_at (Cell c m ∷ es) (suc k) e o s = item_at es k e (λ i j d a b. o (suc i
 item_at (One p ∷ es) k e o s =
     let none : cells_among es ≡ [] = no_cells p es (λ j d w. o 0 (suc j) d (omega arith) (omega arith)) in
     subst (λ (cs : List Octant). IsItemAt (slice_get cs k) e) (sym none) (one_at (One p ∷ es) k e none s)
-
--- what a filter keeps is in the list and passes
-pub from_filter : {X : Type 0} (test : X → Bool) (xs : List X) (x : X) → Contains (filter test xs) x → Contains xs x × (test x ≡ true)
-from_filter test xs x h = (
-  All-contains (Contains xs) (filter test xs) x (All-filter test (Contains xs) xs (All-contains_itself xs)) h,
-  All-contains (λ y. test y ≡ true) (filter test xs) x (filter_passes test xs) h,
-)
-
-kept_at : {X : Type 0} (test : X → Bool) (xs : List X) (k : ℕ) (x : X) → k < length xs → get_or xs k x ≡ x → test x ≡ true → Contains (filter test xs) x
-kept_at test [] k x w e h = absurd (omega arith)
-kept_at {X} test (y ∷ ys) zero x w e h =
-    subst (λ (l : List X). Contains l x) (sym (cond-true (test y) (y ∷ filter test ys) (filter test ys) (ap test e ∙ h))) (0, omega arith, e)
-kept_at {X} test (y ∷ ys) (suc k) x w e h =
-    let rest = kept_at test ys k x (omega arith) e h in
-    cond_both (test y) (y ∷ filter test ys) (filter test ys) (λ (l : List X). Contains l x) (λ _. (suc rest.0, omega (arith, rest.1), rest.2)) (λ _. rest)
-
-pub into_filter : {X : Type 0} (test : X → Bool) (xs : List X) (x : X) → Contains xs x → test x ≡ true → Contains (filter test xs) x
-into_filter test xs x h e = kept_at test xs h.0 x h.1 h.2 e
 
 -- the first element of a span that isn't empty
 pub first_of_span : {X : Type 0} (first len : ℕ) (xs : List X) (x d : X) → Contains (take len (drop first xs)) x → (first < length xs) × Contains (take len (drop first xs)) (get_or xs first d)

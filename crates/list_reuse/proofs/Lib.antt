@@ -1,6 +1,5 @@
 pub mod ItemLemmas
 pub mod RefreshLemmas
-pub mod PermutationLemmas
 pub mod PartLemmas
 pub mod SumLemmas
 pub mod OneLemmas

@@ -23,7 +23,6 @@ use Rattle.group_lists.specs.Listing.{SourceItems, IsSource, items_at_span, body
 use Rattle.list_reuse.specs.Keeping.{Motion, IsMotion, sent_from}
 use Rattle.list_reuse.specs.Renewing.{IsSameEntry}
 use Rattle.list_reuse.specs.KeepLaws.{Laws}
-use Rattle.list_reuse.proofs.ItemLemmas.{from_filter, into_filter}
 use Rattle.list_reuse.proofs.PartLemmas.{inner, outer, of_rank, members_now, item_now, own_is_there, own_moment, values_moment, sent_is, items_permuted}
 use Rattle.list_reuse.proofs.SumLemmas.{counted}
 
@@ -73,7 +72,7 @@ module _ (laws : Laws) (m : Motion) (motion : IsMotion m) (built : List Particle
   own_one d h same s one within is bodies are b at =
       let q = get_or built s.first p in
       let found : Contains (filter (body_lies_in d) built) q = subst (λ (l : List Particle). Contains l q) is (first_there s.first s.len built p one within) in
-      let both = from_filter (body_lies_in d) built q found in
+      let both = (laws.passing_particles (body_lies_in d) built q).0 found in
       let name = named (One q) d p same both.1 in
       let id : q.id ≡ p.id = ap (λ (v : Particle). v.id) (same_one q name.0 name.1) ∙ name.2 in
       let alike : q ≡ p = laws.one_id m.particles q p motion.are_bodies.distinct (own_is_there laws m motion built mine span some inside q both.0) (is_there h) id in
@@ -90,7 +89,7 @@ module _ (laws : Laws) (m : Motion) (motion : IsMotion m) (built : List Particle
       let f = get_or s.items sp.first d in
       let P = item_now laws m motion built mine span some inside r in
       let found : Contains (items_in d s.items) f = subst (λ (l : List Entry). Contains l f) is (first_there sp.first sp.len s.items d one within) in
-      let both = from_filter (λ (g : Entry). lies_in g d) s.items f found in
+      let both = (laws.passing_items (λ (g : Entry). lies_in g d) s.items f).0 found in
       let name = named f d p same both.1 in
       let theirs = of_rank laws m motion built mine span some inside r in
       let box = outer laws m motion built mine span some inside in
@@ -102,7 +101,7 @@ module _ (laws : Laws) (m : Motion) (motion : IsMotion m) (built : List Particle
       let list : IsListOf m.theta box theirs (list_of m.theta box theirs) = (laws.lists m.theta box theirs (list_of m.theta box theirs) (laws.some owned m.particles motion.are_bodies.distinct)).1 refl in
       let from = list.sound (One name.0) sent in
       let there : Contains m.particles name.0 =
-      subst (Contains m.particles) (sym (from_entry name.0 from.0 m.theta box theirs (level_of m.theta box from.0.at) from.2)) (from_filter owned m.particles from.0 from.1).0 in
+      subst (Contains m.particles) (sym (from_entry name.0 from.0 m.theta box theirs (level_of m.theta box from.0.at) from.2)) ((laws.passing_particles owned m.particles from.0).0 from.1).0 in
       let alike : name.0 ≡ p = laws.one_id m.particles name.0 p motion.are_bodies.distinct there (is_there h) name.2 in
       get_or-map P s.items sp.first d d (omega arith) ∙ ap P name.1 ∙ ap (λ (v : Particle). One (as_in m.now v)) alike
 
@@ -116,8 +115,8 @@ module _ (laws : Laws) (m : Motion) (motion : IsMotion m) (built : List Particle
   member_itself : (j : Particle) (level : Option ℕ) → Contains m.particles j → level_of m.theta (inner laws m motion built mine span some inside) j.at ≡ level → One p ≡ entry_at m.theta (inner laws m motion built mine span some inside) m.particles j level → Contains (members_of m.theta (inner laws m motion built mine span some inside) m.particles (One p)) j
   member_itself j (Some level) h near e = absurd (cc)
   member_itself j None h near e =
-      into_filter (leads_to m.theta (inner laws m motion built mine span some inside) (One p)) m.particles j h
-      (and_from (is_none (level_of m.theta (inner laws m motion built mine span some inside) j.at)) (nat_eq p.id j.id) (ap is_none near) (eq-eqb p.id j.id (ap (λ (q : Particle). q.id) (same_one p j e))))
+      (laws.passing_particles (leads_to m.theta (inner laws m motion built mine span some inside) (One p)) m.particles j).1
+      (h, and_from (is_none (level_of m.theta (inner laws m motion built mine span some inside) j.at)) (nat_eq p.id j.id) (ap is_none near) (eq-eqb p.id j.id (ap (λ (q : Particle). q.id) (same_one p j e))))
 
   pub never_none : Contains listed (One p) → present m.now (members_of m.theta (inner laws m motion built mine span some inside) m.particles (One p)) ≡ [] → ⊥
   never_none h none =
@@ -127,7 +126,7 @@ module _ (laws : Laws) (m : Motion) (motion : IsMotion m) (built : List Particle
       let leads = leads_to m.theta box (One p) in
       let members = members_of m.theta box m.particles (One p) in
       let member = member_itself from.0 (level_of m.theta box from.0.at) from.1 refl from.2 in
-      let found = laws.are_found m.particles members m.now motion.are_bodies.distinct (laws.some leads m.particles motion.are_bodies.distinct) (λ k i. (from_filter leads m.particles k i).0) motion.same_ids in
+      let found = laws.are_found m.particles members m.now motion.are_bodies.distinct (laws.some leads m.particles motion.are_bodies.distinct) (λ k i. ((laws.passing_particles leads m.particles k).0 i).0) motion.same_ids in
       let same = length_permutation (map (as_in m.now) members) (present m.now members) found in
       let long = length-map members (as_in m.now) in
       let zero : length (present m.now members) ≡ 0 = ap length none in

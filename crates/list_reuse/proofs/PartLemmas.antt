@@ -29,8 +29,6 @@ use Rattle.group_lists.specs.Listing.{SourceItems, IsSource, items_at_span, body
 use Rattle.list_reuse.specs.Keeping.{Motion, IsMotion, sent_from, values_from}
 use Rattle.list_reuse.specs.Renewing.{IsSameEntry}
 use Rattle.list_reuse.specs.KeepLaws.{Laws}
-use Rattle.list_reuse.proofs.ItemLemmas.{from_filter}
-use Rattle.list_reuse.proofs.PermutationLemmas.{IsPermutation-filter}
 
 -- tests that agree on the elements keep the same
 agree_on : {X : Type 0} (p q : X → Bool) (xs : List X) → ((x : X) → Contains xs x → p x ≡ q x) → filter p xs ≡ filter q xs
@@ -101,7 +99,7 @@ module _ (laws : Laws) (m : Motion) (motion : IsMotion m) (built : List Particle
 
   -- the own bodies are among the particles
   pub own_is_there : (j : Particle) → Contains built j → Contains m.particles j
-  own_is_there j h = (from_filter (λ (i : Particle). nat_eq (owner m.grid m.particles i.at) m.rank) m.particles j (Contains-permutation built (of_rank m.rank) j mine h)).0
+  own_is_there j h = ((laws.passing_particles (λ (i : Particle). nat_eq (owner m.grid m.particles i.at) m.rank) m.particles j).0 (Contains-permutation built (of_rank m.rank) j mine h)).0
 
   pub distinct_own : HaveDistinctIds built
   distinct_own = laws.distinct (of_rank m.rank) built (IsPermutation-sym built (of_rank m.rank) mine) (laws.some (λ (j : Particle). nat_eq (owner m.grid m.particles j.at) m.rank) m.particles motion.are_bodies.distinct)
@@ -130,8 +128,8 @@ module _ (laws : Laws) (m : Motion) (motion : IsMotion m) (built : List Particle
       let some_own : List Particle = filter leads built in
       let of_own : List Particle = filter leads (of_rank m.rank) in
       let alike : filter (body_lies_in d) built ≡ filter (body_lies_in e) built = filter_agree (body_lies_in d) (body_lies_in e) (λ j. lies_in_same (One j) e d same) built in
-      let found = laws.are_found m.particles some_own m.now motion.are_bodies.distinct (laws.some leads built distinct_own) (λ k i. own_is_there k (from_filter leads built k i).0) motion.same_ids in
-      let moved = laws.present_order m.now m.now some_own of_own (IsPermutation-refl m.now) (IsPermutation-filter leads built (of_rank m.rank) mine) in
+      let found = laws.are_found m.particles some_own m.now motion.are_bodies.distinct (laws.some leads built distinct_own) (λ k i. own_is_there k ((laws.passing_particles leads built k).0 i).0) motion.same_ids in
+      let moved = laws.present_order m.now m.now some_own of_own (IsPermutation-refl m.now) (laws.kept_particles leads built (of_rank m.rank) mine) in
       ap moment_of
       (ap (take s.len) (drop-map (as_in m.now) s.first built)
       ∙ take-map (as_in m.now) s.len (drop s.first built)
@@ -177,6 +175,6 @@ module _ (laws : Laws) (m : Motion) (motion : IsMotion m) (built : List Particle
       ∙ take-map (item_now r) sp.len (drop sp.first s.items)
       ∙ ap (map (item_now r)) (is ∙ alike))
       ∙ sym (laws.joins (map (item_now r) (filter test (sent_from m r))) (map (item_now r) (filter test s.items))
-      (IsPermutation-map (item_now r) (filter test (sent_from m r)) (filter test s.items) (IsPermutation-filter test (sent_from m r) s.items (items_permuted r s source d))))
+      (IsPermutation-map (item_now r) (filter test (sent_from m r)) (filter test s.items) (laws.kept_items test (sent_from m r) s.items (items_permuted r s source d))))
       ∙ ap (λ (l : List Entry). moment_together (map (item_now r) (items_in e l))) (sent_is r)
       ∙ sym (laws.of_some (λ (j : Particle). nat_eq (owner m.grid m.particles j.at) r) m.theta inner outer m.particles m.now e boxes.inner_is boxes.outer_is boxes.within motion.are_bodies.distinct motion.same_ids h)

@@ -22,8 +22,6 @@ use Rattle.list_reuse.specs.Refreshing.{present_items}
 use Rattle.list_reuse.specs.Keeping.{Motion, IsMotion, sent_from, values_from}
 use Rattle.list_reuse.specs.KeepLaws.{Laws}
 use Rattle.list_reuse.specs.KeepingLaws.{RefreshedValuesArePresent}
-use Rattle.list_reuse.proofs.ItemLemmas.{from_filter}
-use Rattle.list_reuse.proofs.PermutationLemmas.{IsPermutation-filter}
 use Rattle.list_reuse.proofs.OneLemmas.{from_entry}
 use Rattle.list_reuse.proofs.GroupLemmas.{as_in_id}
 use Rattle.list_reuse.proofs.KeptLemmas.{ids_as_in}
@@ -58,7 +56,7 @@ module _ (laws : Laws) (stay : PresentOfSomeStaySome) (found : PresentEntriesAre
   distinct_bodies = subst (λ (l : List ℕ). IsDistinct nat_eq l) (sym (ap (map (λ (j : Particle). j.id)) are ∙ ids_as_in m.now built)) distinct_built
 
   built_is_there : (j : Particle) → Contains built j → Contains m.particles j
-  built_is_there j h = (from_filter (λ (i : Particle). nat_eq (owner m.grid m.particles i.at) src) m.particles j (Contains-permutation built of_src j theirs h)).0
+  built_is_there j h = ((laws.passing_particles (λ (i : Particle). nat_eq (owner m.grid m.particles i.at) src) m.particles j).0 (Contains-permutation built of_src j theirs h)).0
 
   -- the members of an item, among the present bodies of their rank and among all
   same_members : (f : Entry) → moment_of (present bodies (members_of m.theta box built f)) ≡ moment_of (present m.now (members_of m.theta box of_src f))
@@ -72,7 +70,7 @@ module _ (laws : Laws) (stay : PresentOfSomeStaySome) (found : PresentEntriesAre
       subst (IsPermutation (present bodies some)) (stay test built m.now) (laws.present_order bodies (present m.now built) some some here (IsPermutation-refl some)) in
       laws.order (present bodies some) (present m.now all)
       (IsPermutation-trans (present bodies some) (present m.now some) (present m.now all) inside
-      (laws.present_order m.now m.now some all (IsPermutation-refl m.now) (IsPermutation-filter test built of_src theirs)))
+      (laws.present_order m.now m.now some all (IsPermutation-refl m.now) (laws.kept_particles test built of_src theirs)))
 
   same_value : (f : Entry) → Contains (list_of m.theta box of_src) f → present_entry bodies (members_of m.theta box built f) f ≡ present_entry m.now (members_of m.theta box of_src f) f
   same_value (Cell c n) h = ap (Cell c) (same_members (Cell c n))

@@ -9,6 +9,7 @@ use Rattle.std.proofs.lemmas.Option.{slice_get-map, slice_get_cases, slice_get_w
 use Rattle.std.proofs.lemmas.List.{take-map, drop-map, length-map, get_or-map, take_more}
 use Rattle.std.proofs.lemmas.List.Elements.{Contains-append_right}
 use Rattle.std.proofs.lemmas.List.Sorted.{IsPermutation-refl}
+use Rattle.order_laws.specs.OrderLaws.{TestsKeepWhatPasses}
 use Rattle.pf_geom.specs.Bounds.{Bounds}
 use Rattle.pf_geom.specs.Octant.{Octant}
 use Rattle.pf_model.specs.declared.entry.Entry.{Entry}
@@ -28,7 +29,7 @@ use Rattle.morton_tree.specs.Tree.{Octree, IsOctree}
 use Rattle.morton_tree.specs.Spans.{at_span}
 use Rattle.essential_tree.specs.declared.sent.Sent.{Sent}
 use Rattle.list_reuse.specs.Refreshing.{IsKeptOf, present_items}
-use Rattle.list_reuse.proofs.ItemLemmas.{IsItemAt, item_at, from_filter, into_filter, first_of_span}
+use Rattle.list_reuse.proofs.ItemLemmas.{IsItemAt, item_at, first_of_span}
 
 abbrev ids : List Particle → List ℕ
 ids js = map (λ (j : Particle). j.id) js
@@ -45,6 +46,7 @@ pub record Laws : Type 0 where
   pub order : MomentsIgnoreOrder
   pub are_found : PresentAreFound
   pub entries_are_found : PresentEntriesAreFound
+  pub passing : TestsKeepWhatPasses Particle
 
 -- particles of the same ids in the same order are found by them
 pub all_found : PresentEntriesAreFound → (now : List Particle) → HaveDistinctIds now → (js ks : List Particle) → ids ks ≡ ids js → ((k : Particle) → Contains ks k → Contains now k) → map (as_in now) js ≡ ks
@@ -72,7 +74,7 @@ module _ (laws : Laws) (tree : Octree) (o : IsOctree tree) where
   span_moment : (test : Particle → Bool) (s : Span) → at_span s tree.built ≡ filter test tree.built → moment_of (present tree.bodies (filter test tree.built)) ≡ moment_of (at_span s tree.bodies)
   span_moment test s e =
       let some = filter test tree.built in
-      let there = laws.are_found tree.built some tree.bodies o.are_bodies.distinct (laws.some test tree.built o.are_bodies.distinct) (λ k h. (from_filter test tree.built k h).0) same_ids_now in
+      let there = laws.are_found tree.built some tree.bodies o.are_bodies.distinct (laws.some test tree.built o.are_bodies.distinct) (λ k h. ((laws.passing test tree.built k).0 h).0) same_ids_now in
       sym (laws.order (map (as_in tree.bodies) some) (present tree.bodies some) there)
       ∙ ap moment_of
       (ap (map (as_in tree.bodies)) (sym e)
@@ -93,8 +95,8 @@ module _ (laws : Laws) (tree : Octree) (o : IsOctree tree) where
     is_member : (p j : Particle) (level : Option ℕ) → Contains tree.built j → level_of t box j.at ≡ level → One p ≡ entry_at t box tree.built j level → Contains (members_of t box tree.built (One p)) j
     is_member p j (Some level) h near e = absurd (cc)
     is_member p j None h near e =
-        into_filter (leads_to t box (One p)) tree.built j h
-        (and_from (is_none (level_of t box j.at)) (nat_eq p.id j.id) (ap is_none near) (eq-eqb p.id j.id (ap (λ (q : Particle). q.id) (same_one p j e))))
+        (laws.passing (leads_to t box (One p)) tree.built j).1
+        (h, and_from (is_none (level_of t box j.at)) (nat_eq p.id j.id) (ap is_none near) (eq-eqb p.id j.id (ap (λ (q : Particle). q.id) (same_one p j e))))
 
     -- a particle beside its span
     one_value : (p : Particle) (s : Span) → Contains (list_of t box tree.built) (One p) → at_span s tree.built ≡ members_of t box tree.built (One p) → (s.first < length tree.bodies) × ((b : Particle) → b ≡ get_or tree.bodies s.first b → now_of (One p) ≡ One b)
@@ -107,7 +109,7 @@ module _ (laws : Laws) (tree : Octree) (o : IsOctree tree) where
         let first = first_of_span s.first s.len tree.built j p (subst (λ (l : List Particle). Contains l j) (sym e) member) in
         let q = get_or tree.built s.first p in
         let found : Contains members q = subst (λ (l : List Particle). Contains l q) e first.1 in
-        let leads = (from_filter (leads_to t box (One p)) tree.built q found).1 in
+        let leads = ((laws.passing (leads_to t box (One p)) tree.built q).0 found).1 in
         let named : p.id ≡ q.id = eqb-true p.id q.id (and_parts (is_none (level_of t box q.at)) (nat_eq p.id q.id) leads).1 in
         let long : length tree.bodies ≡ length tree.built = sym (length-map tree.bodies (λ (v : Particle). v.id)) ∙ ap length o.same_ids ∙ length-map tree.built (λ (v : Particle). v.id) in
         let within : s.first < length tree.bodies = subst (λ (n : ℕ). s.first < n) (sym long) first.0 in (

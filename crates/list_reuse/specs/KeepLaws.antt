@@ -1,4 +1,7 @@
 -- The laws by which kept lists are renewed.
+use Rattle.order_laws.specs.OrderLaws.{TestsKeepPermutations, TestsKeepWhatPasses}
+use Rattle.pf_model.specs.declared.entry.Entry.{Entry}
+use Rattle.pf_model.specs.Particle.{Particle}
 use Rattle.model_laws.specs.DomainLaws.{AllRanksHaveAll}
 use Rattle.model_laws.specs.MomentLaws.{MomentsIgnoreOrder, MomentsAddUp, EntriesJoinInAnyOrder}
 use Rattle.model_laws.specs.ListLaws.{LevelsAreLeast, ListsHoldTheirEntries, FirstCellsHoldTheirMembers}
@@ -24,3 +27,7 @@ pub record Laws : Type 0 where
   pub add : MomentsAddUp
   pub of_ranks : PresentMembersAreOfRanks
   pub all_ranks : AllRanksHaveAll
+  pub kept_particles : TestsKeepPermutations Particle
+  pub kept_items : TestsKeepPermutations Entry
+  pub passing_particles : TestsKeepWhatPasses Particle
+  pub passing_items : TestsKeepWhatPasses Entry

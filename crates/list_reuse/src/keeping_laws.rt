@@ -6,6 +6,8 @@ ghost use Rattle.list_reuse.specs.KeepingLaws.{MovedBodiesArePresent};
 
 use crate::laws::laws;
 use model_laws::{kept_lists_begin_as_lists, present_entries_are_found, present_of_some_stay_some};
+use order_laws::tests_keep_what_passes;
+use pf_model::Body;
 
 /// The lists of a build are kept lists.
 pub fn lists_of_a_build_are_kept()
@@ -13,6 +15,7 @@ pub fn lists_of_a_build_are_kept()
 {
     kept_lists_begin_as_lists();
     present_entries_are_found();
+    tests_keep_what_passes::<Body>();
 }
 
 /// What a rank sends again are the present values of the items that it sent.

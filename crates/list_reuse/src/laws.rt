@@ -8,6 +8,8 @@ use model_laws::{
     lists_hold_their_entries, moments_add_up, moments_ignore_order, particles_of_one_id_are_one,
     present_are_found, present_ignores_order, present_members_are_of_ranks, some_have_distinct_ids,
 };
+use order_laws::{tests_keep_permutations, tests_keep_what_passes};
+use pf_model::{Body, Entry};
 
 // The laws of lists, of what is present, and of moments.
 pub(crate) fn laws()
@@ -28,4 +30,8 @@ pub(crate) fn laws()
     moments_add_up();
     present_members_are_of_ranks();
     all_ranks_have_all();
+    tests_keep_permutations::<Body>();
+    tests_keep_permutations::<Entry>();
+    tests_keep_what_passes::<Body>();
+    tests_keep_what_passes::<Entry>();
 }

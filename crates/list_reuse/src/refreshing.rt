@@ -11,7 +11,8 @@ use model_laws::{
     some_have_distinct_ids,
 };
 use morton_tree::Tree;
-use pf_model::Entry;
+use order_laws::tests_keep_what_passes;
+use pf_model::{Body, Entry};
 use pf_num::OutOfMemory;
 use std::alloc::Global;
 
@@ -49,6 +50,7 @@ fn present_value(sent: &Sent, tree: &Tree, place: usize) -> Entry
     moments_ignore_order();
     present_are_found();
     present_entries_are_found();
+    tests_keep_what_passes::<Body>();
     let span = sent.spans[place];
     let bodies = tree.bodies();
     match sent.cells.get(place) {

@@ -18,6 +18,7 @@ bounds-bodies-span c =
       order = c.moments_ignore_order.ensures;
       are_found = c.present_are_found.ensures;
       entries_are_found = c.present_entries_are_found.ensures;
+      passing = c.tests_keep_what_passes.ensures;
     } in
     let place = c.args.place in
     let look = c.in-None.ensures.lookup in
@@ -34,6 +35,7 @@ returns-in-Some c t box items kept =
       order = c.moments_ignore_order.ensures;
       are_found = c.present_are_found.ensures;
       entries_are_found = c.present_entries_are_found.ensures;
+      passing = c.tests_keep_what_passes.ensures;
     } in
     let place = c.args.place in
     let cell = c.in-Some.cell.now in
@@ -51,6 +53,7 @@ returns-in-None c t box items kept =
       order = c.moments_ignore_order.ensures;
       are_found = c.present_are_found.ensures;
       entries_are_found = c.present_entries_are_found.ensures;
+      passing = c.tests_keep_what_passes.ensures;
     } in
     let place = c.args.place in
     let look = c.in-None.ensures.lookup in
