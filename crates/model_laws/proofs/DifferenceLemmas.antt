@@ -1,5 +1,5 @@
 -- Moments that are the same together with others.
-use Rattle.std.proofs.Common.{◌≡◌, sym, ◌∙◌, ap}
+use Rattle.std.proofs.Common.{sym, ◌∙◌, ap}
 use Rattle.pf_model.specs.Totals.{Totals}
 use Rattle.model_laws.specs.MomentLaws.{MomentsCancel}
 use Rattle.pf_model.proofs.DifferenceLemmas.{difference_is, difference}

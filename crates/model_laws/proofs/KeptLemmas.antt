@@ -18,9 +18,9 @@ use Rattle.pf_model.specs.Sums.{moment_of, together}
 use Rattle.pf_model.specs.Interaction.{level_of, leads_to, entry_at, comes_before, list_of, members_of}
 use Rattle.pf_model.specs.Sufficiency.{entry_moment, moment_together, items_in}
 use Rattle.pf_model.specs.Reuse.{present, present_entry, items_now}
-use Rattle.model_laws.specs.MomentLaws.{MomentsIgnoreOrder, EntriesJoinTheirMoments}
+use Rattle.model_laws.specs.MomentLaws.{MomentsIgnoreOrder}
 use Rattle.model_laws.specs.DomainLaws.{RanksHaveTheirOwn}
-use Rattle.model_laws.specs.ReuseLaws.{PresentMembersAreOfRanks, KeptEntriesAddUpTheirItems, KeptEntriesAddUpItemsOfSome, KeptEntriesAddUpOverRanks}
+use Rattle.model_laws.specs.ReuseLaws.{PresentMembersAreOfRanks, KeptEntriesAddUpItemsOfSome}
 use Rattle.order_laws.proofs.OrderLemmas.{In, IsAscending, before_each}
 use Rattle.order_laws.proofs.ElementLemmas.{in_from_contains, in_filter}
 use Rattle.order_laws.proofs.PermutationLemmas.{IsPermutation-filter, either_filter}
@@ -85,10 +85,6 @@ of_some laws same_moment t inner outer n ks js now distinct_ks distinct some are
     ap (λ l. moment_of (present now l)) (lead_to_items laws t inner outer n ks js distinct_ks distinct some e i)
     ∙ sym (moment_now_of_some same_moment t outer ks now distinct_ks (some_are_now ks js now some are) (items_in e (list_of t outer ks)) (items_ascend t outer ks e) (items_are_items t outer ks e))
 
-pub kept_entries_add_up_their_items : Laws → MomentsIgnoreOrder → KeptEntriesAddUpTheirItems
-kept_entries_add_up_their_items laws same_moment t inner outer js now e inner_is outer_is within distinct same there =
-    of_some laws same_moment t inner outer (record { inner_is = inner_is; outer_is = outer_is; within = within }) js js now distinct distinct (λ j i. i) (are_now js now distinct same) e (in_from_contains (list_of t inner js) e there)
-
 pub kept_entries_add_up_items_of_some : Laws → MomentsIgnoreOrder → KeptEntriesAddUpItemsOfSome
 kept_entries_add_up_items_of_some laws same_moment test t inner outer js now e inner_is outer_is within distinct same there =
     of_some laws same_moment t inner outer (record { inner_is = inner_is; outer_is = outer_is; within = within }) (filter test js) js now (some_have_distinct_ids test js distinct) distinct (some_in test js) (are_now js now distinct same) e (in_from_contains (list_of t inner js) e there)
@@ -130,18 +126,3 @@ module _ (law : RanksHaveTheirOwn) (t : Criterion) (box : Bounds) (g : Division)
 
 pub present_members_are_of_ranks : RanksHaveTheirOwn → PresentMembersAreOfRanks
 present_members_are_of_ranks law t box g js now e ranks distinct once = over_ranks law t box g js now e distinct ranks once
-
--- the items of the ranks in turn
-rank_by_rank : EntriesJoinTheirMoments → (f : ℕ → List Particle) (items : ℕ → List Entry) → ((rank : ℕ) → moment_of (f rank) ≡ moment_together (items rank)) → (ranks : List ℕ) → moment_of (flat_map f ranks) ≡ moment_together (flat_map items ranks)
-rank_by_rank law f items each [] = refl
-rank_by_rank law f items each (rank ∷ ranks) =
-    moment_of-append (f rank) (flat_map f ranks)
-    ∙ (λ k. together (each rank k) (rank_by_rank law f items each ranks k))
-    ∙ sym (law (items rank) (flat_map items ranks))
-
-pub kept_entries_add_up_over_ranks : MomentsIgnoreOrder → EntriesJoinTheirMoments → PresentMembersAreOfRanks → KeptEntriesAddUpItemsOfSome → KeptEntriesAddUpOverRanks
-kept_entries_add_up_over_ranks same_moment joins of_ranks of_some t inner outer g js now e ranks inner_is outer_is within distinct same once there =
-    let f : ℕ → List Particle = λ rank. present now (members_of t inner (particles_of g js rank) e) in
-    same_moment (present now (members_of t inner (particles_of_ranks g js ranks) e)) (flat_map f ranks) (of_ranks t inner g js now e ranks distinct once)
-    ∙ rank_by_rank joins f (λ rank. items_now t outer (particles_of g js rank) now e)
-    (λ rank. of_some (λ j. nat_eq (owner g js j.at) rank) t inner outer js now e inner_is outer_is within distinct same there) ranks

@@ -5,8 +5,8 @@ use Rattle.std.proofs.Math.Nat.{mul-le-mul_left}
 use Rattle.std.proofs.lemmas.Nat.{div_below}
 use Rattle.std.proofs.lemmas.List.Elements.{All-head, All-tail, All-replicate, All-weaker}
 use Rattle.pf_model.specs.Particle.{Particle, IsParticle, IsAttribute}
-use Rattle.pf_model.specs.Totals.{Totals, IsTotals}
-use Rattle.pf_model.specs.Sums.{moment_of, together, pairwise_sums}
+use Rattle.pf_model.specs.Totals.{IsTotals}
+use Rattle.pf_model.specs.Sums.{moment_of, pairwise_sums}
 use Rattle.model_laws.specs.MomentLaws.{MomentsKeepTheirLimits, JoinedMomentsKeepTheirLimits, SourcesKeepTheirLimits}
 use Rattle.pf_model.proofs.MomentLemmas.{IsSumOf-pairwise, inside-sums, three_of, weighted_at, attributes_of_one, count-moment_of, moment_of-append}
 

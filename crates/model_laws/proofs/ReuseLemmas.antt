@@ -14,8 +14,8 @@ use Rattle.pf_model.specs.Particles.{HaveDistinctIds}
 use Rattle.pf_model.specs.Criterion.{Criterion}
 use Rattle.pf_model.specs.Sums.{moment_of}
 use Rattle.pf_model.specs.Interaction.{level_of, leads_to_cell, entry_at, list_of, members_of}
-use Rattle.pf_model.specs.Reuse.{present_entry, kept_list}
-use Rattle.model_laws.specs.ReuseLaws.{KeptListsBeginAsLists, PresentBeginsAsBuilt}
+use Rattle.pf_model.specs.Reuse.{present, present_entry, kept_list}
+use Rattle.model_laws.specs.ReuseLaws.{KeptListsBeginAsLists}
 use Rattle.model_laws.specs.ParticleLaws.{ParticlesOfOneIdAreOne, DistinctIdsIgnoreOrder, SomeHaveDistinctIds}
 use Rattle.order_laws.proofs.OrderLemmas.{In}
 use Rattle.order_laws.proofs.ElementLemmas.{in_from_contains, keeps, eqb_flips, in_filter}
@@ -75,7 +75,8 @@ has_id_of_kept test js distinct p i =
     sym (ap test one) ∙ both.1))
     (λ e. list_any-from_in has (filter test js) p (keeps test p js e i) (eq-eqb p.id p.id refl))
 
-pub present_begins_as_built : PresentBeginsAsBuilt
+-- at the build some of the particles are present as they are
+present_begins_as_built : (test : Particle → Bool) (js : List Particle) → HaveDistinctIds js → present js (filter test js) ≡ filter test js
 present_begins_as_built test js distinct =
     filter_agree_on (λ (p : Particle). list_any (λ (j : Particle). nat_eq p.id j.id) (filter test js)) test js (has_id_of_kept test js distinct)
 

@@ -20,11 +20,6 @@ abbrev pub KeptListsBeginAsLists : Type 0
 KeptListsBeginAsLists =
     (t : Criterion) (box : Bounds) (js : List Particle) → HaveDistinctIds js → kept_list t box js js ≡ list_of t box js
 
--- and some of the particles are present as they are
-abbrev pub PresentBeginsAsBuilt : Type 0
-PresentBeginsAsBuilt =
-    (test : Particle → Bool) (js : List Particle) → HaveDistinctIds js → present js (filter test js) ≡ filter test js
-
 -- what is present of some of the particles is so among what is present of all of them
 abbrev pub PresentOfSomeStaySome : Type 0
 PresentOfSomeStaySome =
@@ -58,15 +53,8 @@ PresentMembersAreOfRanks =
     IsPermutation (present now (members_of t box (particles_of_ranks g js ranks) e))
     (flat_map (λ rank. present now (members_of t box (particles_of g js rank) e)) ranks)
 
--- for a box inside a box, the present members of an entry of the inner list have the moment of the items of the outer
--- list that lie in it, as they are now
-abbrev pub KeptEntriesAddUpTheirItems : Type 0
-KeptEntriesAddUpTheirItems =
-    (t : Criterion) (inner outer : Bounds) (js now : List Particle) (e : Entry) → IsBox inner → IsBox outer →
-    IsWithin inner outer → HaveDistinctIds js → HaveSameIds js now → Contains (list_of t inner js) e →
-    moment_of (present now (members_of t inner js e)) ≡ moment_together (items_now t outer js now e)
-
--- those of them among some of the particles have it of the items over these
+-- for a box inside a box, the present members of an entry of the inner list that are among some of the particles have
+-- the moment of the items of the outer list over these that lie in it, as they are now
 abbrev pub KeptEntriesAddUpItemsOfSome : Type 0
 KeptEntriesAddUpItemsOfSome =
     (test : Particle → Bool) (t : Criterion) (inner outer : Bounds) (js now : List Particle) (e : Entry) →
@@ -74,12 +62,3 @@ KeptEntriesAddUpItemsOfSome =
     Contains (list_of t inner js) e →
     moment_of (present now (members_of t inner (filter test js) e))
     ≡ moment_together (items_now t outer (filter test js) now e)
-
--- and those of some ranks have it of the items over each of these ranks in turn
-abbrev pub KeptEntriesAddUpOverRanks : Type 0
-KeptEntriesAddUpOverRanks =
-    (t : Criterion) (inner outer : Bounds) (g : Division) (js now : List Particle) (e : Entry) (ranks : List ℕ) →
-    IsBox inner → IsBox outer → IsWithin inner outer → HaveDistinctIds js → HaveSameIds js now →
-    IsDistinct nat_eq ranks → Contains (list_of t inner js) e →
-    moment_of (present now (members_of t inner (particles_of_ranks g js ranks) e))
-    ≡ moment_together (flat_map (λ rank. items_now t outer (particles_of g js rank) now e) ranks)

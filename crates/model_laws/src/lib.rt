@@ -49,10 +49,9 @@ pub use particle_laws::{
     distinct_ids_ignore_order, particles_of_one_id_are_one, some_have_distinct_ids,
 };
 pub use reuse_laws::{
-    kept_entries_add_up_items_of_some, kept_entries_add_up_over_ranks,
-    kept_entries_add_up_their_items, kept_lists_begin_as_lists, present_are_found,
-    present_begins_as_built, present_entries_are_found, present_ignores_order,
-    present_members_are_of_ranks, present_of_some_stay_some,
+    kept_entries_add_up_items_of_some, kept_lists_begin_as_lists, present_are_found,
+    present_entries_are_found, present_ignores_order, present_members_are_of_ranks,
+    present_of_some_stay_some,
 };
 pub use sufficiency_laws::{
     boxes_lie_in_domains, entries_add_up_their_items, items_lie_in_one_entry,

@@ -1,24 +1,18 @@
 // The laws of kept lists, each the contract of a function that does nothing when it runs. A caller whose
 // proof needs a law calls its function.
 
-ghost use Rattle.model_laws.specs.ReuseLaws.{KeptListsBeginAsLists, PresentBeginsAsBuilt, PresentOfSomeStaySome};
+ghost use Rattle.model_laws.specs.ReuseLaws.{KeptListsBeginAsLists, PresentOfSomeStaySome};
 ghost use Rattle.model_laws.specs.ReuseLaws.{PresentIgnoresOrder, PresentAreFound, PresentEntriesAreFound};
-ghost use Rattle.model_laws.specs.ReuseLaws.{PresentMembersAreOfRanks, KeptEntriesAddUpTheirItems};
-ghost use Rattle.model_laws.specs.ReuseLaws.{KeptEntriesAddUpItemsOfSome, KeptEntriesAddUpOverRanks};
+ghost use Rattle.model_laws.specs.ReuseLaws.{PresentMembersAreOfRanks, KeptEntriesAddUpItemsOfSome};
 
 use crate::domain_laws::ranks_have_their_own;
-use crate::moment_laws::{entries_join_their_moments, moments_ignore_order};
+use crate::moment_laws::moments_ignore_order;
 use crate::opening_laws::cells_pass_for_boxes_inside;
 use pf_geom::{cells_of_a_position_nest, positions_have_cells, positions_share_lower_cells};
 
 /// At the build a kept list is the list.
 pub fn kept_lists_begin_as_lists()
     ensures { KeptListsBeginAsLists }
-{}
-
-/// At the build particles are present as they are.
-pub fn present_begins_as_built()
-    ensures { PresentBeginsAsBuilt }
 {}
 
 /// What is present of some particles is so among what is present of all.
@@ -48,18 +42,8 @@ pub fn present_members_are_of_ranks()
     ranks_have_their_own();
 }
 
-/// The present members of an entry of the inner list have the moment of the present items that lie in it.
-pub fn kept_entries_add_up_their_items()
-    ensures { KeptEntriesAddUpTheirItems }
-{
-    cells_pass_for_boxes_inside();
-    cells_of_a_position_nest();
-    positions_share_lower_cells();
-    positions_have_cells();
-    moments_ignore_order();
-}
-
-/// Those of some particles have the moment of the present items over these.
+/// The present members of an entry of the inner list that are among some of the particles have the moment of the
+/// present items over these that lie in it.
 pub fn kept_entries_add_up_items_of_some()
     ensures { KeptEntriesAddUpItemsOfSome }
 {
@@ -68,14 +52,4 @@ pub fn kept_entries_add_up_items_of_some()
     positions_share_lower_cells();
     positions_have_cells();
     moments_ignore_order();
-}
-
-/// Those of some ranks have the moment of the present items over each of them in turn.
-pub fn kept_entries_add_up_over_ranks()
-    ensures { KeptEntriesAddUpOverRanks }
-{
-    moments_ignore_order();
-    entries_join_their_moments();
-    present_members_are_of_ranks();
-    kept_entries_add_up_items_of_some();
 }
