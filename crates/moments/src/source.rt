@@ -1,6 +1,7 @@
 ghost use Rattle.std.specs.Prelude.{◌≡◌, ◌*◌, ◌-◌, ◌/◌, ◌^◌, ◌≤◌, ◌<◌};
 ghost use Rattle.pf_model.specs.Sums.{source_of};
 
+use model_laws::sources_keep_their_limits;
 use pf_geom::Point;
 use pf_model::{Item, Moment};
 
@@ -10,6 +11,7 @@ pub fn centre(m: &Moment) -> Point
     requires { 1 ≤ m.now.count }
     ensures { result ≡ (source_of m.now).at }
 {
+    sources_keep_their_limits();
     let [x, y, z] = m.weighted;
     Point {
         x: mean(x, m.mass),
@@ -34,9 +36,8 @@ pub fn item(m: &Moment) -> Item
 // The mean coordinate, rounded down.
 fn mean(weighted: u128, mass: u64) -> u32
     requires some { 1 ≤ mass }
-    requires inside { weighted ≤ mass * (2 ^ 30 - 1) }
-    ensures value { result ≡ weighted / mass }
-    ensures fits { result < 2 ^ 30 }
+    requires inside { weighted / mass < 2 ^ 30 }
+    ensures { result ≡ weighted / mass }
 {
     (weighted / u128::from(mass)) as u32
 }
