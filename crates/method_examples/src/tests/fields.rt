@@ -68,3 +68,31 @@ fn the_test_goes_by_the_angle(rt: HostRuntime) {
     assert!(rt; !half.passes(b, cell));
     assert!(rt; !never.passes(b, cell));
 }
+
+#[test]
+fn a_cell_that_has_a_position_of_the_box_never_passes(rt: HostRuntime) {
+    let p = Point {
+        x: 1 << 20,
+        y: 0,
+        z: 0,
+    };
+    let b = Box3 { lo: p, hi: p };
+    let widest = Theta {
+        a: 1024,
+        b: 1,
+        edge: Edge::Open,
+    };
+    let own = Cell {
+        level: 30,
+        key: 1 << 62,
+    };
+    // The cell of the position before it, at x = 2^20 - 1.
+    let beside = Cell {
+        level: 30,
+        key: 658_812_288_346_769_700,
+    };
+    assert!(rt; !widest.passes(b, Cell { level: 0, key: 0 }));
+    assert!(rt; !widest.passes(b, Cell { level: 10, key: 4 }));
+    assert!(rt; !widest.passes(b, own));
+    assert!(rt; widest.passes(b, beside));
+}

@@ -95,6 +95,36 @@ fn a_list_from_the_other_side_has_a_finer_cell(rt: HostRuntime) -> Result<(), Fa
 }
 
 #[test]
+fn particles_in_the_box_are_listed_as_themselves(rt: HostRuntime) -> Result<(), Fail> {
+    let theta = Theta {
+        a: 1,
+        b: 1,
+        edge: Edge::Open,
+    };
+    let around = Box3 {
+        lo: Point {
+            x: 1048576,
+            y: 0,
+            z: 0,
+        },
+        hi: Point {
+            x: 1048581,
+            y: 0,
+            z: 0,
+        },
+    };
+    let far = Cell { level: 11, key: 0 };
+    let expected = [
+        Entry::Cell(far, moment(1, 1, 0)),
+        Entry::One(body(2, 1048576, 1)),
+        Entry::One(body(3, 1048581, 3)),
+    ];
+    let list = slow_list(rt.alloc(), &two_close_and_one_far(), around, theta)?;
+    assert_eq!(rt; list.as_slice(), expected.as_slice());
+    Ok(())
+}
+
+#[test]
 fn a_periodic_list_sees_the_nearest_image(rt: HostRuntime) -> Result<(), Fail> {
     let origin = Point { x: 0, y: 0, z: 0 };
     let theta = Theta {
@@ -150,5 +180,17 @@ fn a_group_is_the_largest_cell_within_the_limit(rt: HostRuntime) -> Result<(), F
     assert_eq!(rt; close.as_slice(), [2, 3].as_slice());
     let all = slow_group(rt.alloc(), &bodies, 3, 1)?;
     assert_eq!(rt; all.as_slice(), [1, 2, 3].as_slice());
+    Ok(())
+}
+
+#[test]
+fn each_particle_is_in_the_one_group_of_its_members(rt: HostRuntime) -> Result<(), Fail> {
+    let bodies = two_close_and_one_far();
+    let of_first = slow_group(rt.alloc(), &bodies, 2, 1)?;
+    let of_second = slow_group(rt.alloc(), &bodies, 2, 2)?;
+    let of_third = slow_group(rt.alloc(), &bodies, 2, 3)?;
+    assert_eq!(rt; of_first.as_slice(), [1].as_slice());
+    assert_eq!(rt; of_second.as_slice(), [2, 3].as_slice());
+    assert_eq!(rt; of_third.as_slice(), of_second.as_slice());
     Ok(())
 }
