@@ -7,13 +7,14 @@ use Rattle.kern_token.specs.declared.token.Word.TheVariants as words
 use Rattle.kern_token.specs.Pieces.{Piece, IsPiece}
 use Rattle.kern_tree.specs.declared.expr.Expr.{Expr}
 use Rattle.kern_tree.specs.declared.stmt.Stmt.{Stmt}
-use Rattle.kern_print.specs.Canonical.{stmt_text, else_lines, line}
+use Rattle.kern_tree.proofs.Layers.{set_layer, give_layer, if_layer}
+use Rattle.kern_print.specs.Canonical.{act_lines, stmt_lines, stmt_text, else_lines, line}
 use Rattle.kern_print.specs.Expressions.{expr_text}
 use Rattle.kern_print.proofs.Held.{Held}
 use Rattle.kern_print.proofs.HeldStmts as held
 use Rattle.kern_print.proofs.HeldStmts.{HeldStmt, HeldBlock, HeldDecl, HeldDecls, Small}
+use Rattle.kern_print.proofs.Ifs.{block_by_statements, else_shown}
 use Rattle.kern_print.proofs.Spelled.{held_pieces, held_stops, gap_before, sym_before, word_before, name_before, edge_32, edge_59}
-use Rattle.kern_print.proofs.StmtForms.{set_form, give_form, if_form, block_by_statements, else_shown}
 use Rattle.kern_print.proofs.Stops.{sym_of, word_of, name_of, blank, gap, bytes_of, bytes_of-append, Calm, Stops, Stops-append, blank_stops}
 use Rattle.kern_print.proofs.Texts.{held_text, behind}
 
@@ -149,9 +150,9 @@ else_bytes depth (s ∷ ss) ps e =
 mutual
   pub stmt_bytes : {depth : ℕ} {s : Stmt} (h : HeldStmt depth s) → stmt_text s depth ≡ bytes_of (stmt_pieces h)
   stmt_bytes (held.set {depth = depth} {n = n} {e = e} name h) =
-      ap (λ f. f depth) (set_form n e) ∙ line_bytes depth (assignment_pieces n symbols.Assign (held_pieces h)) (n ++ codes " = " ++ expr_text e ++ codes ";") (assignment_bytes n symbols.Assign (codes " = ") h refl)
+      ap (λ f. f depth) (set_layer act_lines stmt_lines n e) ∙ line_bytes depth (assignment_pieces n symbols.Assign (held_pieces h)) (n ++ codes " = " ++ expr_text e ++ codes ";") (assignment_bytes n symbols.Assign (codes " = ") h refl)
   stmt_bytes (held.give {depth = depth} {n = n} {e = e} name h) =
-      ap (λ f. f depth) (give_form n e) ∙ line_bytes depth (assignment_pieces n symbols.Add (held_pieces h)) (n ++ codes " += " ++ expr_text e ++ codes ";") (assignment_bytes n symbols.Add (codes " += ") h refl)
+      ap (λ f. f depth) (give_layer act_lines stmt_lines n e) ∙ line_bytes depth (assignment_pieces n symbols.Add (held_pieces h)) (n ++ codes " += " ++ expr_text e ++ codes ";") (assignment_bytes n symbols.Add (codes " += ") h refl)
   stmt_bytes (held.conditional {depth = depth} {c = c} {body = ss} {others = others} h d body other) =
       let last : List Piece = line_pieces depth close_pieces in
       let rest : List Piece = else_pieces depth others (block_pieces other) in
@@ -160,7 +161,7 @@ mutual
       let e2 : else_lines (map stmt_text others) depth ≡ bytes_of rest = else_bytes depth others (block_pieces other) (block_bytes other) in
       let e3 : line depth (codes "}") ≡ bytes_of last = line_bytes depth close_pieces (codes "}") refl in
       let e0 : first ≡ bytes_of (line_pieces depth (head_pieces (held_pieces h))) = line_bytes depth (head_pieces (held_pieces h)) (codes "if " ++ expr_text c ++ codes " {") (head_bytes h) in
-      ap (λ f. f depth) (if_form c ss others)
+      ap (λ f. f depth) (if_layer act_lines stmt_lines c ss others)
       ∙ ap (λ x. first ++ x ++ else_lines (map stmt_text others) depth ++ line depth (codes "}")) (block_by_statements ss (depth + 1) ∙ e1)
       ∙ ap (λ x. first ++ bytes_of (block_pieces body) ++ x ++ line depth (codes "}")) e2
       ∙ ap (λ x. first ++ bytes_of (block_pieces body) ++ bytes_of rest ++ x) e3

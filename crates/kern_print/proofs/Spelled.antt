@@ -172,9 +172,6 @@ axis_is_name axes.Z = record { name_like = (refl, tt); no_word = no_word 122; no
 pub gap_piece : IsPiece gap
 gap_piece = inl (refl, refl)
 
-pub gap_stops : (rest : List ℕ) → Stops (gap ∷ []) rest
-gap_stops rest = (gap_piece, tt, blank_stops 32 rest (λ e. omega arith), tt)
-
 pub gap_before : (ps : List Piece) (rest : List ℕ) → Stops ps rest → Stops (gap ∷ ps) rest
 gap_before ps rest h = (gap_piece, tt, blank_stops 32 (bytes_of ps ++ rest) (λ e. omega arith), h)
 

@@ -15,8 +15,8 @@ use Rattle.kern_tree.specs.declared.expr.Op3.{Op3}
 use Rattle.kern_tree.specs.Grammar.{axis_letter}
 use Rattle.pf_geom.specs.declared.axis.Axis.{Axis}
 use Rattle.pf_geom.specs.declared.axis.Axis.TheVariants as axes
-use Rattle.kern_print.specs.Expressions.{Operand, in_brackets, operand_text, literal_text, axis_text}
-use Rattle.kern_print.proofs.ExprForms.{number_form, name_form, part_form, one_form, two_form, three_form, to_form}
+use Rattle.kern_tree.proofs.Layers.{number_layer, name_layer, part_layer, one_layer, two_layer, three_layer, to_layer}
+use Rattle.kern_print.specs.Expressions.{Operand, in_brackets, operand_of, operand_text, literal_text, axis_text}
 use Rattle.kern_print.proofs.Held.{Bare, Held, bare, bracket, literal, variable, part, sign, two, call1, call2, call3, to, Infix, or, and, lt, le, gt, ge, eq, ne, add, sub, mul, div, Sign, neg, not, Call1, isqrt, abs, Call2, least, most, Call3, muldiv, build}
 use Rattle.kern_print.proofs.Spelled.{bare_pieces, held_pieces, literal_pieces, closed}
 use Rattle.kern_print.proofs.Stops.{sym_of, name_of, gap, bytes_of, bytes_of-append}
@@ -94,32 +94,32 @@ regroup_to k x = simp append_assoc
 
 mutual
   pub bare_text : {depth level : ℕ} {e : Expr} (h : Bare depth level e) (n : ℕ) → operand_text e n ≡ shown level n (bytes_of (bare_pieces h))
-  bare_text (literal {mantissa = m} {bits = b} small limit) n = ap (λ f. f n) (number_form m b) ∙ ap (shown 7 n) (literal_same m b)
-  bare_text (variable {called = c} name) n = ap (λ f. f n) (name_form c) ∙ ap (shown 7 n) (sym (append-nil c))
+  bare_text (literal {mantissa = m} {bits = b} small limit) n = ap (λ f. f n) (number_layer in_brackets operand_of m b) ∙ ap (shown 7 n) (literal_same m b)
+  bare_text (variable {called = c} name) n = ap (λ f. f n) (name_layer in_brackets operand_of c) ∙ ap (shown 7 n) (sym (append-nil c))
   bare_text (part {a = a} {axis = axis} h) n =
-      ap (λ f. f n) (part_form a axis)
+      ap (λ f. f n) (part_layer in_brackets operand_of a axis)
       ∙ ap (shown 7 n) (append_assoc (operand_text a 7) (codes ".") (axis_text axis) ∙ ap (λ x. operand_text a 7 ++ (46 ∷ x)) (same_axis axis ∙ sym (append-nil (axis_letter axis)))
       ∙ behind (held_pieces h) (sym_of symbols.Dot ∷ name_of (axis_letter axis) ∷ []) (operand_text a 7) (held_text h))
   bare_text (sign {s = s} {op = op} {a = a} known h) n =
-      ap (λ f. f n) (one_form op a) ∙ sign_shown known (operand_text a) n ∙ ap (λ x. shown 6 n (symbol_text s ++ x)) (held_text h)
+      ap (λ f. f n) (one_layer in_brackets operand_of op a) ∙ sign_shown known (operand_text a) n ∙ ap (λ x. shown 6 n (symbol_text s ++ x)) (held_text h)
   bare_text (two {level = level} {left = left} {s = s} {op = op} {a = a} {b = b} known h k) n =
-      ap (λ f. f n) (two_form op a b) ∙ infix_shown known (operand_text a) (operand_text b) n
+      ap (λ f. f n) (two_layer in_brackets operand_of op a b) ∙ infix_shown known (operand_text a) (operand_text b) n
       ∙ ap (shown level n) (spaced (operand_text a left) (symbol_text s) (operand_text b (suc level)) ∙ ap (λ x. operand_text a left ++ (32 ∷ (symbol_text s ++ (32 ∷ x)))) (held_text k)
       ∙ behind (held_pieces h) (gap ∷ sym_of s ∷ gap ∷ held_pieces k) (operand_text a left) (held_text h))
   bare_text (call1 {w = w} {op = op} {a = a} known d h) n =
-      ap (λ f. f n) (one_form op a) ∙ call1_shown known (operand_text a) n
+      ap (λ f. f n) (one_layer in_brackets operand_of op a) ∙ call1_shown known (operand_text a) n
       ∙ ap (λ x. shown 7 n (word_text w ++ (40 ∷ x))) (behind (held_pieces h) closed (operand_text a 1) (held_text h))
   bare_text (call2 {w = w} {op = op} {a = a} {b = b} known d h k) n =
-      ap (λ f. f n) (two_form op a b) ∙ call2_shown known (operand_text a) (operand_text b) n
+      ap (λ f. f n) (two_layer in_brackets operand_of op a b) ∙ call2_shown known (operand_text a) (operand_text b) n
       ∙ ap (λ x. shown 7 n (word_text w ++ (40 ∷ x)))
       (regroup_two (operand_text a 1) (operand_text b 1) (41 ∷ []) ∙ comma (held_pieces h) (held_pieces k ++ closed) (operand_text a 1) (operand_text b 1 ++ 41 ∷ []) (held_text h) (behind (held_pieces k) closed (operand_text b 1) (held_text k)))
   bare_text (call3 {w = w} {op = op} {a = a} {b = b} {c = c} known d h k l) n =
-      ap (λ f. f n) (three_form op a b c) ∙ call3_shown known (operand_text a) (operand_text b) (operand_text c) n
+      ap (λ f. f n) (three_layer in_brackets operand_of op a b c) ∙ call3_shown known (operand_text a) (operand_text b) (operand_text c) n
       ∙ ap (λ x. shown 7 n (word_text w ++ (40 ∷ x)))
       (regroup_three (operand_text a 1) (operand_text b 1) (operand_text c 1) (41 ∷ []) ∙ comma (held_pieces h) (held_pieces k ++ (sym_of symbols.Comma ∷ gap ∷ (held_pieces l ++ closed))) (operand_text a 1) (operand_text b 1 ++ (44 ∷ 32 ∷ (operand_text c 1 ++ 41 ∷ []))) (held_text h)
       (comma (held_pieces k) (held_pieces l ++ closed) (operand_text b 1) (operand_text c 1 ++ 41 ∷ []) (held_text k) (behind (held_pieces l) closed (operand_text c 1) (held_text l))))
   bare_text (to {bits = k} {a = a} fits d h) n =
-      ap (λ f. f n) (to_form k a)
+      ap (λ f. f n) (to_layer in_brackets operand_of k a)
       ∙ ap (shown 7 n) (regroup_to (decimal k) (operand_text a 1) ∙ ap (λ x. codes "to(" ++ (decimal k ++ (44 ∷ 32 ∷ x))) (behind (held_pieces h) closed (operand_text a 1) (held_text h)))
 
   pub held_text : {depth needed : ℕ} {e : Expr} (h : Held depth needed e) → operand_text e needed ≡ bytes_of (held_pieces h)

@@ -1,5 +1,5 @@
 use Rattle.std.proofs.lemmas.Result.{on_ok_weaker}
-use Rattle.kern_print.proofs.ExprForms.{three_pushed, to_pushed}
+use Rattle.kern_print.proofs.Calls.{three_pushed, to_pushed}
 use Rattle.kern_print.proofs.expr.+operands.Goals as goal
 
 pub push_form-returns-in_ok-push_then-in-Three-3 :

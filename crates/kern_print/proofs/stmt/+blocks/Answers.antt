@@ -1,7 +1,7 @@
 use Rattle.std.proofs.Common.{◌<◌, length, arith}
 use Rattle.std.proofs.lemmas.Bool.Decides.{nat_tests}
 use Rattle.std.proofs.lemmas.Result.{on_ok_weaker}
-use Rattle.kern_print.proofs.StmtForms.{if_pushed, else_pushed}
+use Rattle.kern_print.proofs.Ifs.{if_pushed, else_pushed}
 use Rattle.kern_print.proofs.stmt.+blocks.Goals as goal
 
 pub push_act-returns-in_ok-push_indent-in-If : goal.push_act-returns-in_ok-push_indent-in-If
