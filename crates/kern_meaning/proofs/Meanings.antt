@@ -16,14 +16,11 @@ use Rattle.kern_meaning.specs.Stops.{◌>>=◌}
 use Rattle.kern_meaning.specs.Pair.{OrPairStop, PairState, Statements, at_statement, act_statements, at_stmt, assign, give, choose, act_meaning, block_meaning}
 use Rattle.kern_meaning.specs.Walks.{act_assigned, stmt_assigned, assigned_by, assigned_in, HavePlaces, HasPlace, Runs}
 use Rattle.kern_meaning.specs.declared.value.Value.{Value}
-use Rattle.kern_tree.proofs.Layers.{of_stmt, set_layer, give_layer, if_layer}
+use Rattle.kern_tree.proofs.Layers.{of_stmt, set_layer, if_layer}
 
 module _ (decls : List Decl) (coincident : Bool) (act : Act) where
   pub set_is : (name : List ℕ) (value : Expr) → act ≡ acts.Set name value → act_meaning decls coincident act ≡ record { count = 1; slots = 0; run = assign decls coincident name value }
   set_is name value is = ap (act_meaning decls coincident) is ∙ set_layer (act_statements decls coincident) at_stmt name value
-
-  pub give_is : (name : List ℕ) (value : Expr) → act ≡ acts.Give name value → act_meaning decls coincident act ≡ record { count = 1; slots = 1; run = give decls coincident name value }
-  give_is name value is = ap (act_meaning decls coincident) is ∙ give_layer (act_statements decls coincident) at_stmt name value
 
   pub if_is : (condition : Expr) (body others : List Stmt) → act ≡ acts.If condition body others
       → act_meaning decls coincident act ≡ record {

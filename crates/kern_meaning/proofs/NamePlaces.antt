@@ -15,7 +15,6 @@ use Rattle.kern_tree.specs.declared.kernel.DeclKind.{DeclKind}
 use Rattle.kern_tree.specs.declared.kernel.DeclKind.TheVariants as declared_as
 use Rattle.kern_tree.specs.declared.kernel.Kind.{Kind}
 use Rattle.kern_types.specs.Names.{declaration}
-use Rattle.kern_types.proofs.Numbers.{named_same}
 use Rattle.kern_meaning.specs.declared.value.Value.{Value}
 use Rattle.kern_meaning.specs.declared.variable.Variable.{Variable}
 use Rattle.kern_meaning.specs.declared.variable.Variable.TheVariants as variables
@@ -84,13 +83,13 @@ module _ (start : Known) (names : List (List ℕ)) (values : List (Option Value)
       let one : bytes_eq (get_or names (position_or_len (λ x. bytes_eq x name) names) []) name ≡ true = passes (λ x. bytes_eq x name) names [] (omega (arith, here, first)) in
       let two : bytes_eq (get_or names (position_or_len (λ x. bytes_eq x other) names) []) other ≡ true = passes (λ x. bytes_eq x other) names [] (omega (arith, here, first, second, f)) in
       let place : position_or_len (λ x. bytes_eq x other) names ≡ position_or_len (λ x. bytes_eq x name) names = sym second ∙ f ∙ first in
-      let is : name ≡ other = sym (named_same _ name one) ∙ ap (λ n. get_or names n []) (sym place) ∙ named_same _ other two in
+      let is : name ≡ other = sym ((bytes_eq-Decides _ name).0 one) ∙ ap (λ n. get_or names n []) (sym place) ∙ (bytes_eq-Decides _ other).0 two in
       let yes : bytes_eq name other ≡ true = (bytes_eq-Decides name other).1 is in
       let no : ⊥ = cc in no
 
   assigned_at : (other : List ℕ) (b : Bool) → bytes_eq name other ≡ b → known_by start names (set values (number_of names name) (Some v)) other ≡ cond b (Some v) (known_by start names values other)
   assigned_at other true e =
-      ap (λ n. value_or (start other) (slice_get (set values (number_of names name) (Some v)) (number_of names n))) (sym (named_same name other e))
+      ap (λ n. value_or (start other) (slice_get (set values (number_of names name) (Some v)) (number_of names n))) (sym ((bytes_eq-Decides name other).0 e))
       ∙ ap (value_or (start other)) (got_same values (number_of names name) (Some v) (omega (arith, here, same)))
   assigned_at other false e = ap (value_or (start other)) (got_other values (number_of names name) (number_of names other) (Some v) (apart other e))
 
@@ -143,7 +142,7 @@ module _ (i : Particle) (j : Source) where
           let h' : n < length names = omega (arith, h, same) in
           let first = number_of-is names name in
           let is : get_or names n [] ≡ name =
-          ap (λ k. get_or names k []) first ∙ named_same _ name (passes (λ x. bytes_eq x name) names [] (omega (arith, h', first))) in
+          ap (λ k. get_or names k []) first ∙ (bytes_eq-Decides _ name).0 (passes (λ x. bytes_eq x name) names [] (omega (arith, h', first))) in
           ap (value_or (known_at_start decls i j name)) (got_in values n None h)
           ∙ each n h
           ∙ ap (λ vs. value_if_any i j (slice_get vs n)) are

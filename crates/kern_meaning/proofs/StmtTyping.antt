@@ -9,8 +9,6 @@ use Rattle.pf_model.specs.Totals.{Source}
 use Rattle.kern_token.specs.declared.limits.TheConstants.{MOST_SCALE}
 use Rattle.kern_tree.specs.declared.expr.Expr.{Expr}
 use Rattle.kern_tree.specs.declared.kernel.Decl.{Decl}
-use Rattle.kern_tree.specs.declared.kernel.DeclKind.{DeclKind}
-use Rattle.kern_tree.specs.declared.kernel.DeclKind.TheVariants as declared_as
 use Rattle.kern_tree.specs.declared.kernel.Kind.{Kind}
 use Rattle.kern_tree.specs.declared.stmt.Stmt.{Stmt}
 use Rattle.kern_tree.specs.Limits as limits
@@ -22,13 +20,11 @@ use Rattle.kern_types.specs.Scopes.{Scope, Grows}
 use Rattle.kern_types.specs.declared.scope.Variable.{Variable}
 use Rattle.kern_types.specs.NameLists.{is_among}
 use Rattle.kern_types.specs.Names.{declaration, earlier_assignment, name_type, named_type, undeclared_type, declared_type, type_of}
-use Rattle.kern_types.specs.Statements.{target_check, what_declares, act_after, at_stmt_place, stmt_after, stmts_after, with_assigned, assignment_after, contribution_check, if_check, condition_check}
+use Rattle.kern_types.specs.Statements.{act_after, at_stmt_place, stmt_after, stmts_after, with_assigned, assignment_after, contribution_check, if_check, condition_check}
 use Rattle.kern_types.specs.Steps.{OrFault, ◌>>◌, pass}
-use Rattle.kern_types.specs.TypingLaws.{ScopesOnlyGrow, HasTypeOf, HaveOneType, AreFitting, FitsIfTyped, ContributionsFit}
+use Rattle.kern_types.specs.TypingLaws.{ScopesOnlyGrow, GrowthIsAnOrder, IsAssignment, AssignmentsFit, HasTypeOf, HaveOneType, AreFitting, FitsIfTyped, ContributionsFit}
 use Rattle.kern_types.proofs.Acts.{before_other, joined}
 use Rattle.kern_types.proofs.Checks.{passed_first, passed_then, reached, find_kept}
-use Rattle.kern_types.proofs.LawsOfStatements.{IsAssignment, is_assignment}
-use Rattle.kern_types.proofs.Numbers.{named_same, grown_then}
 use Rattle.kern_types.proofs.Paths.{among_both, among_common, or_false}
 use Rattle.kern_meaning.specs.declared.stop.PairStop.TheVariants as pair_stops
 use Rattle.kern_meaning.specs.declared.stop.Stop.TheVariants as stops
@@ -208,7 +204,7 @@ module _ (decls : List Decl) (i : Particle) (j : Source) (coincident : Bool) (de
           (rest_of P scope.earlier (new ∷ []) until).0
 
       set_assigned : (other : List ℕ) (b : Bool) → bytes_eq name other ≡ b → is_among (scope.certain ++ name ∷ []) other ≡ true → HasValue all (with_value known name v) other
-      set_assigned other true e certain = subst (λ (n : List ℕ). HasValue all (with_value known name v) n) (named_same name other e) (own_value (earlier_assignment all name) refl new_type)
+      set_assigned other true e certain = subst (λ (n : List ℕ). HasValue all (with_value known name v) n) ((bytes_eq-Decides name other).0 e) (own_value (earlier_assignment all name) refl new_type)
       set_assigned other false e certain =
           let h : HasValue all known other = agrees.assigned other (among_earlier scope.certain name other certain e) in
           record {
@@ -221,7 +217,7 @@ module _ (decls : List Decl) (i : Particle) (j : Source) (coincident : Bool) (de
 
       set_declared : (other : List ℕ) (b : Bool) → bytes_eq name other ≡ b → (decl : Decl) → declaration decls other ≡ Some decl → with_value known name v other ≡ declared_value i j decl.what
       set_declared other true e decl is =
-          absurd (let f : declaration decls other ≡ None = subst (λ (n : List ℕ). declaration decls n ≡ None) (named_same name other e) undeclared in let no : ⊥ = cc in no)
+          absurd (let f : declaration decls other ≡ None = subst (λ (n : List ℕ). declaration decls n ≡ None) ((bytes_eq-Decides name other).0 e) undeclared in let no : ⊥ = cc in no)
       set_declared other false e decl is = ap (λ b. cond b (Some v) (known other)) e ∙ agrees.declared other decl is
 
       set_agrees : Agrees (with_assigned scope name kind scale) (with_value known name v)
@@ -230,27 +226,17 @@ module _ (decls : List Decl) (i : Particle) (j : Source) (coincident : Bool) (de
         assigned = λ other certain. set_assigned other (bytes_eq name other) refl certain;
       }
 
-  target_undeclared : (place : ℕ) (decl : Option Decl) → target_check place (what_declares decl) ≡ pass → decl ≡ None
-  target_undeclared place None e = refl
-  target_undeclared place (Some decl) e = absurd (declared_target decl.what e) where
-    declared_target : (what : DeclKind) → target_check place (Some what) ≡ pass → ⊥
-    declared_target (declared_as.Epi kind scale field) e = cc
-    declared_target (declared_as.Epj kind scale field) e = cc
-    declared_target (declared_as.Param scale value) e = cc
-    declared_target (declared_as.Force kind scale combine) e = cc
-
-  set_typed : (place : ℕ) (name : List ℕ) (value : Expr) (scope after : Scope) → IsLimited value → assignment_after decls place name value scope ≡ Ok after → Grows after.earlier all → IsTypedStep scope after (record { count = 1; slots = 0; run = assign decls coincident name value })
-  set_typed place name value scope after small e later =
-      let is : IsAssignment decls place name value scope after = is_assignment decls place name value scope after e in
+  set_typed : (growth : GrowthIsAnOrder) (assignments_fit : AssignmentsFit) (place : ℕ) (name : List ℕ) (value : Expr) (scope after : Scope) → IsLimited value → assignment_after decls place name value scope ≡ Ok after → Grows after.earlier all → IsTypedStep scope after (record { count = 1; slots = 0; run = assign decls coincident name value })
+  set_typed growth assignments_fit place name value scope after small e later =
+      let is : IsAssignment decls name value scope after = assignments_fit decls place name value scope after e in
       let ends = with_assigned scope name is.kind is.scale in
       let grows : Grows ends.earlier all = subst (λ (s : Scope). Grows s.earlier all) is.ends later in
-      let first : Grows scope.earlier all = grown_then scope.earlier ends.earlier all (record { more = record { name = name; kind = is.kind; scale = is.scale } ∷ []; is = refl }) grows in
-      let undeclared = target_undeclared place (declaration decls name) is.undeclared in
+      let first : Grows scope.earlier all = growth.then scope.earlier ends.earlier all (record { more = record { name = name; kind = is.kind; scale = is.scale } ∷ []; is = refl }) grows in
       subst (λ (s : Scope). IsTypedStep scope s (record { count = 1; slots = 0; run = assign decls coincident name value })) (sym is.ends)
       (λ n slot state agrees.
       own_goes n ends (IsTypedAs is.kind is.scale) (number_value_of state.known value) (λ held. Ok (record { known = with_value state.known name held; given = state.given }))
       (number_answers is.kind is.scale (value_of state.known value) (fits_as scope state.known agrees first (types.Scaled is.kind is.scale) small is.typed))
-      (λ v typed. set_agrees scope name is.kind is.scale undeclared state.known agrees v typed grows))
+      (λ v typed. set_agrees scope name is.kind is.scale is.undeclared state.known agrees v typed grows))
 
   -- ---- name += value;
 
@@ -291,15 +277,15 @@ module _ (decls : List Decl) (i : Particle) (j : Source) (coincident : Bool) (de
 
   -- ---- all
 
-  module _ (only_grow : ScopesOnlyGrow) (contributions_fit : ContributionsFit) where
+  module _ (only_grow : ScopesOnlyGrow) (growth : GrowthIsAnOrder) (assignments_fit : AssignmentsFit) (contributions_fit : ContributionsFit) where
     before : {ss : List Stmt} → IsLimitedBlock ss → (scope after : Scope) → stmts_after decls ss scope ≡ Ok after → Grows after.earlier all → Grows scope.earlier all
-    before {ss = ss} small scope after e later = grown_then scope.earlier after.earlier all (only_grow decls ss scope after small e) later
+    before {ss = ss} small scope after e later = growth.then scope.earlier after.earlier all (only_grow decls ss scope after small e) later
 
     mutual
       stmt_typed : {s : Stmt} → IsLimitedStmt s → (scope after : Scope) → stmt_after decls s scope ≡ Ok after → Grows after.earlier all → IsTypedStep scope after (act_meaning decls coincident s.act)
       stmt_typed (limits.set {place = p} {name = n} {value = v} small) scope after e later =
           subst (λ (m : Statements). IsTypedStep scope after m) (sym (set_layer (act_statements decls coincident) at_stmt n v))
-          (set_typed p n v scope after small (sym (ap (λ f. f p scope) (set_layer (act_after decls) at_stmt_place n v)) ∙ e) later)
+          (set_typed growth assignments_fit p n v scope after small (sym (ap (λ f. f p scope) (set_layer (act_after decls) at_stmt_place n v)) ∙ e) later)
       stmt_typed (limits.give {place = p} {name = n} {value = v} small) scope after e later =
           subst (λ (m : Statements). IsTypedStep scope after m) (sym (give_layer (act_statements decls coincident) at_stmt n v))
           (give_typed contributions_fit p n v scope after small (sym (ap (λ f. f p scope) (give_layer (act_after decls) at_stmt_place n v)) ∙ e) later)

@@ -10,7 +10,7 @@ use Rattle.kern_types.specs.Scopes.{Scope}
 use Rattle.kern_types.specs.Declarations.{all_decls_check}
 use Rattle.kern_types.specs.Names.{declaration}
 use Rattle.kern_types.specs.Statements.{stmts_after}
-use Rattle.kern_types.specs.TypingLaws.{DeclarationsFit, ScopesOnlyGrow, NamesKeepTheirType, ExpressionScalesFit, AssignedScalesFit, ContributionsFit}
+use Rattle.kern_types.specs.TypingLaws.{DeclarationsFit, ScopesOnlyGrow, GrowthIsAnOrder, NamesKeepTheirType, ExpressionScalesFit, AssignedScalesFit, AssignmentsFit, ContributionsFit}
 use Rattle.kern_types.specs.WellTyped as typed
 use Rattle.kern_meaning.specs.declared.stop.PairStop.TheVariants as pair_stops
 use Rattle.kern_meaning.specs.declared.value.Value.{Value}
@@ -19,7 +19,6 @@ use Rattle.kern_meaning.specs.Pair.{OrPairStop, PairState, as_answer, is_same_pl
 use Rattle.kern_meaning.specs.Stops.{◌>>=◌}
 use Rattle.kern_meaning.specs.Typing.{PairAnswer, HasOnePair, Typing}
 use Rattle.kern_types.proofs.Checks.{passed_then}
-use Rattle.kern_types.proofs.Numbers.{grown_none}
 use Rattle.kern_meaning.proofs.DeclTyping.{DeclFits, declared_fit}
 use Rattle.kern_meaning.proofs.StmtTyping.{AllAssigned, Agrees, Goes, block_typed}
 
@@ -46,13 +45,13 @@ ended decls i j coincident fit all assignments scope (Ok state) h = tt
 ended decls i j coincident fit all assignments scope (Err (pair_stops.Fault fault)) h = tt
 ended decls i j coincident fit all assignments scope (Err pair_stops.NoResult) h = h
 
-pub typing : ParsedKernelsKeepLimits → DeclarationsFit → ScopesOnlyGrow → NamesKeepTheirType → ExpressionScalesFit → AssignedScalesFit → ContributionsFit → Typing
-typing limits declarations only_grow keep_type scales assigned_scales contributions kernel i j parsed (end, e) =
+pub typing : ParsedKernelsKeepLimits → DeclarationsFit → ScopesOnlyGrow → GrowthIsAnOrder → NamesKeepTheirType → ExpressionScalesFit → AssignedScalesFit → AssignmentsFit → ContributionsFit → Typing
+typing limits declarations only_grow growth keep_type scales assigned_scales assignments_fit contributions kernel i j parsed (end, e) =
     let after = passed_then (all_decls_check kernel.decls) (stmts_after kernel.decls kernel.body typed.at_start) end e in
     let fit = declared_fit i j declarations kernel (end, e) in
     let assignments : AllAssigned kernel.decls end.earlier = record { one_type = keep_type kernel end parsed e; fitting = assigned_scales kernel end parsed e; expressions = scales kernel parsed } in
     let coincident : Bool = is_same_place i.at j.at in
-    let step = block_typed kernel.decls i j coincident fit end.earlier assignments only_grow contributions (limits kernel parsed).body typed.at_start end after (grown_none end) in
+    let step = block_typed kernel.decls i j coincident fit end.earlier assignments only_grow growth assignments_fit contributions (limits kernel parsed).body typed.at_start end after (growth.none end.earlier) in
     let start : PairState = record { known = known_at_start kernel.decls i j; given = replicate (block_meaning kernel.decls coincident kernel.body).slots None } in
     let agrees : Agrees kernel.decls i j coincident fit end.earlier assignments typed.at_start start.known = record {
       declared = λ name decl is. ap (value_if_declared i j) is;

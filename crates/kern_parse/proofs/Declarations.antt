@@ -277,9 +277,6 @@ constant_read bits called value place old r0 r1 r2 r3 r4 new next t scaled named
 
 -- ---- lists of declarations
 
-pub decls_none : (old : Reading) → Declares old [] old
-decls_none old = record { spelled = refl; leads = record { goes = λ later. refl }; depth = refl; shorter = omega arith }
-
 pub decls_more : (old now new : Reading) (decls : List Decl) (read : Decl) → Declares old decls now → ReadsDecl now read new → Declares old (decls ++ read ∷ []) new
 decls_more old now new decls read found one = record {
   spelled = many_snoc decl old.rest decls now.rest read new.rest found.spelled one.spelled;

@@ -6,12 +6,11 @@ use Rattle.kern_tree.specs.declared.kernel.Decl.{Decl}
 use Rattle.kern_tree.specs.declared.kernel.DeclKind.{DeclKind}
 use Rattle.kern_tree.specs.declared.kernel.DeclKind.TheVariants as declared_as
 use Rattle.kern_tree.specs.declared.kernel.Kernel.{Kernel}
-use Rattle.kern_tree.specs.declared.limits.TheConstants.{MOST_NODES}
 use Rattle.kern_tree.specs.Nodes.{stmt_nodes}
-use Rattle.kern_tree.specs.Limits.{KeepsLimits, ParsedKernelsKeepLimits}
+use Rattle.kern_tree.specs.Limits.{ParsedKernelsKeepLimits}
 use Rattle.kern_types.specs.Declarations.{new_check, what_check, decl_check, decls_check, all_decls_check, force_as, forces_of}
 use Rattle.kern_types.specs.Names.{declaration}
-use Rattle.kern_types.specs.Statements.{stmts_after, slots_in}
+use Rattle.kern_types.specs.Statements.{stmts_after}
 use Rattle.kern_types.specs.Steps.{pass}
 use Rattle.kern_types.specs.TypingLaws.{NamesAreDeclaredOnce, DeclarationsFit, ForcesAndSlotsAreFew}
 use Rattle.kern_types.specs.WellTyped.{WellTyped, at_start}
@@ -73,9 +72,7 @@ few_forces : (decls : List Decl) → length (forces_of decls) ≤ length (flat_m
 few_forces [] = omega arith
 few_forces (d ∷ decls) = omega (arith, few_as d.name d.what, few_forces decls, length-append (force_as d.name d.what) (forces_of decls))
 
-pub few_of : (kernel : Kernel) → KeepsLimits kernel → length (forces_of kernel.decls) + slots_in kernel.body ≤ MOST_NODES
-few_of kernel small =
-    omega (arith, small.few, few_forces kernel.decls, block_slots small.body, length-append (flat_map (λ (d : Decl). d.place ∷ []) kernel.decls) (flat_map stmt_nodes kernel.body))
-
 pub few : ParsedKernelsKeepLimits → ForcesAndSlotsAreFew
-few limits kernel parsed = few_of kernel (limits kernel parsed)
+few limits kernel parsed =
+    let small = limits kernel parsed in
+    omega (arith, small.few, few_forces kernel.decls, block_slots small.body, length-append (flat_map (λ (d : Decl). d.place ∷ []) kernel.decls) (flat_map stmt_nodes kernel.body))

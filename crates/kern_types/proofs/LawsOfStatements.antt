@@ -21,7 +21,7 @@ use Rattle.kern_types.specs.Paths.{Path, then_each, act_paths, stmt_paths, paths
 use Rattle.kern_types.specs.Scopes.{Scope, Grows}
 use Rattle.kern_types.specs.Statements.{act_after, at_stmt_place, stmt_after, stmts_after, assignment_after, set_after, set_check, target_check, again_check, what_declares, with_assigned, contribution_check, give_check, given_check, if_check}
 use Rattle.kern_types.specs.Steps.{◌>>=◌, pass}
-use Rattle.kern_types.specs.TypingLaws.{ScopesOnlyGrow, CertainIsOnEveryPath, CertainAtTheEnd, HasTypeOf, HaveOneType, NamesKeepTheirType, ContributionsFit}
+use Rattle.kern_types.specs.TypingLaws.{ScopesOnlyGrow, GrowthIsAnOrder, IsAssignment, AssignmentsFit, CertainIsOnEveryPath, CertainAtTheEnd, HasTypeOf, HaveOneType, NamesKeepTheirType, ContributionsFit}
 use Rattle.kern_types.specs.WellTyped.{at_start, kernel_after}
 use Rattle.kern_types.proofs.Acts.{before_other, joined}
 use Rattle.kern_types.proofs.Checks.{passed_first, passed_then, Reached, reached, checked_same, find_kept, find_later}
@@ -31,33 +31,44 @@ use Rattle.kern_types.proofs.Paths.{or_false, and_true, or_assoc, or_and, among_
 
 -- ---- an assignment that passes
 
-module _ (decls : List Decl) (place : ℕ) (name : List ℕ) (value : Expr) (scope after : Scope) where
-  pub record IsAssignment : Type 0 where
-    pub kind : Kind
-    pub scale : ℕ
-    pub typed : type_of decls scope value ≡ Ok (types.Scaled kind scale)
-    pub undeclared : target_check place (what_declares (declaration decls name)) ≡ pass
-    pub again : again_check place kind scale (earlier_assignment scope.earlier name) ≡ pass
-    pub ends : after ≡ with_assigned scope name kind scale
+undeclared : (place : ℕ) (decl : Option Decl) → target_check place (what_declares decl) ≡ pass → decl ≡ None
+undeclared place None e = refl
+undeclared place (Some decl) e = absurd (declared_target decl.what e) where
+  declared_target : (what : DeclKind) → target_check place (Some what) ≡ pass → ⊥
+  declared_target (declared_as.Epi kind scale field) e = cc
+  declared_target (declared_as.Epj kind scale field) e = cc
+  declared_target (declared_as.Param scale value) e = cc
+  declared_target (declared_as.Force kind scale combine) e = cc
 
-  pub is_assignment : assignment_after decls place name value scope ≡ Ok after → IsAssignment
-  is_assignment e = of_type r.value r.is r.then_is where
+module _ (decls : List Decl) (place : ℕ) (name : List ℕ) (value : Expr) (scope after : Scope) where
+  -- an assignment whose earlier ones are of its kind and scale
+  pub record IsLikeEarlier : Type 0 where
+    pub assignment : IsAssignment decls name value scope after
+    pub again : again_check place assignment.kind assignment.scale (earlier_assignment scope.earlier name) ≡ pass
+
+  like_earlier : assignment_after decls place name value scope ≡ Ok after → IsLikeEarlier
+  like_earlier e = of_type r.value r.is r.then_is where
     r : Reached (type_of decls scope value) (λ type. set_after decls place name type scope) after
     r = reached (type_of decls scope value) (λ type. set_after decls place name type scope) after e
 
-    of_type : (type : ExprType) → type_of decls scope value ≡ Ok type → set_after decls place name type scope ≡ Ok after → IsAssignment
+    of_type : (type : ExprType) → type_of decls scope value ≡ Ok type → set_after decls place name type scope ≡ Ok after → IsLikeEarlier
     of_type types.Condition is e = absurd (let no : ⊥ = cc in no)
     of_type (types.Scaled kind scale) is e =
         let checked = passed_first (set_check decls place name kind scale scope) (Ok (with_assigned scope name kind scale)) after e in
         let ended = passed_then (set_check decls place name kind scale scope) (Ok (with_assigned scope name kind scale)) after e in
         record {
-          kind = kind;
-          scale = scale;
-          typed = is;
-          undeclared = passed_first (target_check place (what_declares (declaration decls name))) (again_check place kind scale (earlier_assignment scope.earlier name)) tt checked;
+          assignment = record {
+            kind = kind;
+            scale = scale;
+            typed = is;
+            undeclared = undeclared place (declaration decls name) (passed_first (target_check place (what_declares (declaration decls name))) (again_check place kind scale (earlier_assignment scope.earlier name)) tt checked);
+            ends = let same : after ≡ with_assigned scope name kind scale = cc in same;
+          };
           again = passed_then (target_check place (what_declares (declaration decls name))) (again_check place kind scale (earlier_assignment scope.earlier name)) tt checked;
-          ends = let same : after ≡ with_assigned scope name kind scale = cc in same;
         }
+
+pub all_assignments_fit : AssignmentsFit
+all_assignments_fit decls place name value before after e = (like_earlier decls place name value before after e).assignment
 
 -- ---- what holds of each statement holds of all
 
@@ -66,14 +77,14 @@ module _
     (P : Scope → Scope → List Path → Type 0)
     (none : (scope : Scope) → P scope scope ([] ∷ []))
     (one_then : (a b c : Scope) (first second : List Path) → P a b first → P b c second → P a c (then_each first second))
-    (assigned : (place : ℕ) (name : List ℕ) (value : Expr) (scope after : Scope) → IsLimited value → IsAssignment decls place name value scope after → P scope after ((name ∷ []) ∷ []))
+    (assigned : (place : ℕ) (name : List ℕ) (value : Expr) (scope after : Scope) → IsLimited value → IsLikeEarlier decls place name value scope after → P scope after ((name ∷ []) ∷ []))
     (either : (scope first second : Scope) (one two : List Path) → P scope first one → P (before_other scope first) second two → P scope (joined first second) (one ++ two))
   where
     mutual
       stmt_holds : {s : Stmt} → IsLimitedStmt s → (scope after : Scope) → stmt_after decls s scope ≡ Ok after → P scope after (paths_of_act s.act)
       stmt_holds (limits.set {place = p} {name = n} {value = v} small) scope after e =
           subst (P scope after) (sym (set_layer act_paths stmt_paths n v))
-          (assigned p n v scope after small (is_assignment decls p n v scope after (sym (ap (λ f. f p scope) (set_layer (act_after decls) at_stmt_place n v)) ∙ e)))
+          (assigned p n v scope after small (like_earlier decls p n v scope after (sym (ap (λ f. f p scope) (set_layer (act_after decls) at_stmt_place n v)) ∙ e)))
       stmt_holds (limits.give {place = p} {name = n} {value = v} small) scope after e =
           let e1 = sym (ap (λ f. f p scope) (give_layer (act_after decls) at_stmt_place n v)) ∙ e in
           let ended = passed_then (contribution_check decls p n v scope) (Ok scope) after e1 in
@@ -102,9 +113,12 @@ module _
 
 pub only_grow : ScopesOnlyGrow
 only_grow decls stmts before after small e =
-    block_holds decls (λ a b paths. Grows a.earlier b.earlier) grown_none (λ a b c first second. grown_then a.earlier b.earlier c.earlier)
-    (λ place name value scope ended small is. grown_assigned scope ended name is.kind is.scale is.ends)
+    block_holds decls (λ a b paths. Grows a.earlier b.earlier) (λ scope. grown_none scope.earlier) (λ a b c first second. grown_then a.earlier b.earlier c.earlier)
+    (λ place name value scope ended small is. grown_assigned scope ended name is.assignment.kind is.assignment.scale is.assignment.ends)
     (λ scope first second one two. grown_then scope.earlier first.earlier second.earlier) small before after e
+
+pub growth_is_an_order : GrowthIsAnOrder
+growth_is_an_order = record { none = grown_none; then = grown_then }
 
 -- ---- every path
 
@@ -131,7 +145,7 @@ path_either scope first second one two h k name =
 
 pub on_every_path : CertainIsOnEveryPath
 on_every_path decls stmts before after small e =
-    block_holds decls OnEveryPath path_none path_then (λ place name value scope ended small is. path_assigned scope ended name is.kind is.scale is.ends) path_either small before after e
+    block_holds decls OnEveryPath path_none path_then (λ place name value scope ended small is. path_assigned scope ended name is.assignment.kind is.assignment.scale is.assignment.ends) path_either small before after e
 
 pub after_decls : (kernel : Kernel) (end : Scope) → kernel_after kernel ≡ Ok end → stmts_after kernel.decls kernel.body at_start ≡ Ok end
 after_decls kernel end e = passed_then (all_decls_check kernel.decls) (stmts_after kernel.decls kernel.body at_start) end e
@@ -171,7 +185,7 @@ type_assigned place name scope after kind scale again ends h =
 pub keep_their_type : ParsedKernelsKeepLimits → NamesKeepTheirType
 keep_their_type keep kernel end parsed e =
     block_holds kernel.decls OneType (λ scope h. h) (λ a b c first second f g h. g (f h))
-    (λ place name value scope after small is. type_assigned place name scope after is.kind is.scale is.again is.ends)
+    (λ place name value scope after small is. type_assigned place name scope after is.assignment.kind is.assignment.scale is.again is.assignment.ends)
     (λ scope first second one two f g h. g (f h)) (keep kernel parsed).body at_start end (after_decls kernel end e) tt
 
 -- ---- contributions

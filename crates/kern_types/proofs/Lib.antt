@@ -5,7 +5,6 @@ pub mod LawsOfDeclarations
 pub mod LawsOfStatements
 pub mod Paths
 pub mod Nodes
-pub mod Nothing
 pub mod Numbers
 pub mod Scales
 pub mod SlotForces

@@ -163,8 +163,8 @@ module _ (earlier : List Variable) (numbers : List ℕ) (v : Variable) (are : Ar
 
 -- ---- scopes that grow
 
-pub grown_none : (scope : Scope) → Grows scope.earlier scope.earlier
-grown_none scope = record { more = []; is = sym (append-nil scope.earlier) }
+pub grown_none : (earlier : List Variable) → Grows earlier earlier
+grown_none earlier = record { more = []; is = sym (append-nil earlier) }
 
 pub grown_then : (a b c : List Variable) → Grows a b → Grows b c → Grows a c
 grown_then a b c h k = record { more = h.more ++ k.more; is = k.is ∙ ap (λ l. l ++ k.more) h.is ∙ append_assoc a h.more k.more }

@@ -228,7 +228,7 @@ pub assigned_scales_fit : ParsedKernelsKeepLimits → AssignedScalesFit
 assigned_scales_fit keep kernel end parsed e =
     block_holds kernel.decls KeepsFitting (λ scope h. h) (λ a b c first second f g h. g (f h))
     (λ place name value scope after small is h.
-    let v : Variable = record { name = name; kind = is.kind; scale = is.scale } in
-    subst (λ (s : Scope). AreFitting s.earlier) (sym is.ends)
-    (fitting_more scope.earlier v h (subst FitsIfTyped is.typed (type_fits kernel.decls (keep kernel parsed).decls scope h small))))
+    let v : Variable = record { name = name; kind = is.assignment.kind; scale = is.assignment.scale } in
+    subst (λ (s : Scope). AreFitting s.earlier) (sym is.assignment.ends)
+    (fitting_more scope.earlier v h (subst FitsIfTyped is.assignment.typed (type_fits kernel.decls (keep kernel parsed).decls scope h small))))
     (λ scope first second one two f g h. g (f h)) (keep kernel parsed).body at_start end (after_decls kernel end e) tt

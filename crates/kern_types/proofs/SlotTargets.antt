@@ -1,6 +1,5 @@
 -- The targets of statements, by their forms.
-use Rattle.std.proofs.Common.{◌≡◌, ℕ, Result, Ok, Err, List, [], ◌∷◌, ◌++◌, map, flat_map, refl, sym, ap, ◌∙◌, append_assoc}
-use Rattle.std.specs.Prelude.{OnOk}
+use Rattle.std.proofs.Common.{◌≡◌, ℕ, List, [], ◌∷◌, ◌++◌, map, flat_map, refl, sym, ap, ◌∙◌, append_assoc}
 use Rattle.kern_tree.specs.declared.expr.Expr.{Expr}
 use Rattle.kern_tree.specs.declared.stmt.Act.{Act}
 use Rattle.kern_tree.specs.declared.stmt.Act.TheVariants as acts
@@ -25,7 +24,3 @@ if_targets_read act condition body others read read_other is same same_other = a
 
 pub pushed : (old one two body others all : Names) → one ≡ old ++ body → all ≡ body ++ others → two ≡ one ++ others → two ≡ old ++ all
 pushed old one two body others all e f g = g ∙ ap (λ x. x ++ others) e ∙ append_assoc old body others ∙ ap (λ y. old ++ y) (sym f)
-
-pub then_ok : {A E P Q : Type 0} (r : Result A E) → OnOk r P → (P → Q) → OnOk r Q
-then_ok (Ok a) h f = f h
-then_ok (Err e) h f = tt

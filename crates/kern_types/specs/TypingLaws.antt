@@ -18,7 +18,8 @@ use Rattle.kern_types.specs.NameLists.{is_among}
 use Rattle.kern_types.specs.Names.{declaration, earlier_assignment, type_of}
 use Rattle.kern_types.specs.Paths.{paths_through, all_assign}
 use Rattle.kern_types.specs.Scopes.{Scope, Grows}
-use Rattle.kern_types.specs.Statements.{contribution_check, slots_in, stmts_after, targets_in}
+use Rattle.kern_types.specs.Statements.{assignment_after, contribution_check, slots_in, stmts_after, targets_in}
+use Rattle.kern_types.specs.Statements.{with_assigned}
 use Rattle.kern_types.specs.Steps.{OrFault, pass}
 use Rattle.kern_types.specs.WellTyped.{WellTyped, kernel_after}
 
@@ -55,6 +56,11 @@ WhereStatementsEnd Holds =
 abbrev pub ScopesOnlyGrow : Type 0
 ScopesOnlyGrow = WhereStatementsEnd (λ decls stmts before after. Grows before.earlier after.earlier)
 
+-- growth is an order
+pub record GrowthIsAnOrder : Type 0 where
+  pub none : (earlier : List Variable) → Grows earlier earlier
+  pub then : (a b c : List Variable) → Grows a b → Grows b c → Grows a c
+
 -- what is certain after statements was so before them, or is assigned on every path through them
 abbrev pub CertainIsOnEveryPath : Type 0
 CertainIsOnEveryPath =
@@ -67,6 +73,19 @@ abbrev pub CertainAtTheEnd : Type 0
 CertainAtTheEnd =
     (kernel : Kernel) (end : Scope) → IsParsed kernel → kernel_after kernel ≡ Ok end
     → (name : List ℕ) → is_among end.certain name ≡ all_assign (paths_through kernel.body) name
+
+-- An assignment of a value with a kind and a scale, to a name that is not declared. The scope after it has it.
+pub record IsAssignment (decls : List Decl) (name : List ℕ) (value : Expr) (before after : Scope) : Type 0 where
+  pub kind : Kind
+  pub scale : ℕ
+  pub typed : type_of decls before value ≡ Ok (Scaled kind scale)
+  pub undeclared : declaration decls name ≡ None
+  pub ends : after ≡ with_assigned before name kind scale
+
+abbrev pub AssignmentsFit : Type 0
+AssignmentsFit =
+    (decls : List Decl) (place : ℕ) (name : List ℕ) (value : Expr) (before after : Scope)
+    → assignment_after decls place name value before ≡ Ok after → IsAssignment decls name value before after
 
 -- of this kind and scale
 abbrev pub HasTypeOf : Option Variable → Variable → Type 0

@@ -25,7 +25,13 @@ pub fn declarations_fit()
 
 /// The assignments before a place are among those before each later one.
 pub fn scopes_only_grow()
-    ensures { laws.ScopesOnlyGrow }
+    ensures statements { laws.ScopesOnlyGrow }
+    ensures order { laws.GrowthIsAnOrder }
+{}
+
+/// What is assigned has a kind and a scale, and its name is not declared.
+pub fn assignments_fit()
+    ensures { laws.AssignmentsFit }
 {}
 
 /// A name is certain exactly where every path through the `if`s assigns it.

@@ -22,8 +22,9 @@ pub use fields::Field;
 pub use force_var::ForceVar;
 pub use forms::{one_type, part_type, three_type, to_type, two_type};
 pub use laws::{
-    certain_is_on_every_path, contributions_fit, declarations_fit, forces_and_slots_are_few,
-    names_keep_their_type, one_typing, scales_fit, scopes_only_grow, slots_have_forces,
+    assignments_fit, certain_is_on_every_path, contributions_fit, declarations_fit,
+    forces_and_slots_are_few, names_keep_their_type, one_typing, scales_fit, scopes_only_grow,
+    slots_have_forces,
 };
 pub use scope::Variable;
 pub use typed::{Typed, check, forces, kernel, slots, targets};
