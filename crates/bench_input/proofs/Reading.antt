@@ -5,182 +5,74 @@ use Rattle.std.proofs.Math.Dec.{leb}
 use Rattle.std.proofs.lemmas.Bool.{leb-true}
 use Rattle.kern_token.specs.declared.token.Symbol.TheVariants as symbols
 use Rattle.kern_token.specs.declared.token.Token.{Token}
+use Rattle.kern_token.specs.declared.token.TokenKind.{TokenKind}
 use Rattle.kern_token.specs.declared.token.TokenKind.TheVariants as kinds
+use Rattle.kern_token.specs.declared.token.Word.{Word}
+use Rattle.kern_token.specs.declared.token.Word.TheVariants as words
 use Rattle.kern_token.specs.Pieces.{Piece, IsPiece, Begins}
 use Rattle.kern_token.specs.Reading.{Splits, tokens_of}
 use Rattle.kern_token.specs.Stopping.{StopsBefore}
 use Rattle.kern_tree.specs.declared.expr.Expr.{Expr}
+use Rattle.kern_tree.specs.declared.expr.Form.TheVariants as forms
 use Rattle.kern_tree.specs.declared.expr.Op1.TheVariants as op1s
 use Rattle.kern_tree.specs.declared.expr.Op2.{Op2}
 use Rattle.kern_tree.specs.declared.expr.Op2.TheVariants as op2s
 use Rattle.kern_tree.specs.declared.expr.Op3.TheVariants as op3s
 use Rattle.kern_tree.specs.declared.kernel.Combine.TheVariants as combines
+use Rattle.kern_tree.specs.declared.kernel.DeclKind.{DeclKind}
+use Rattle.kern_tree.specs.declared.kernel.DeclKind.TheVariants as declared_as
+use Rattle.kern_tree.specs.declared.kernel.Kind.{Kind}
 use Rattle.kern_tree.specs.declared.kernel.Kind.TheVariants as kinds_of
 use Rattle.kern_tree.specs.declared.stmt.Act.TheVariants as acts
 use Rattle.kern_tree.specs.FirstFault.{brackets_after, IsShallow}
-use Rattle.kern_tree.specs.Grammar.{decl, stmt, operator, joined_from_left, two, prim, unary, prod, sum, rel, both, expr_over, expr_within, SpellsKernel}
+use Rattle.kern_tree.specs.Grammar.{node, decl_node, stmt_node, kind, field_of, param, decl, stmt, operator, joined_from_left, two, prim, unary, prod, sum, rel, both, expr_over, expr_within, SpellsKernel}
 use Rattle.kern_tree.specs.Rules.{Rule, At, ◌or◌, never}
 use Rattle.kern_tree.specs.Nodes.{NodesByForm, kernel_nodes, stmt_nodes}
 use Rattle.kern_tree.specs.declared.limits.TheConstants.{MOST_NODES}
 use Rattle.bench_input.specs.Kernel.{IsBenchKernel}
-use Rattle.bench_input.proofs.Pieces.{text_of, AllStand, splits}
+use Rattle.bench_input.proofs.Pieces.{bench_pieces, all_pieces_stand, both_pass, splits}
 use Rattle.bench_input.proofs.Pieces as lines
-use Rattle.bench_input.proofs.Tree.{bench_kernel, name_node, xi_decl, xj_decl, mj_decl, acc_decl, g_decl, e_decl, d_value, d_squared, r2_value, r_value, over_r, acc_value, d_stmt, r2_stmt, r_stmt, acc_stmt}
+use Rattle.bench_input.proofs.Tree.{bench_kernel, name_node, acc_decl, d_value, d_squared, r2_value, r_value, over_r, acc_value, d_stmt, r2_stmt, r_stmt, acc_stmt}
 use Rattle.bench_input.proofs.Types.{kernel_typed}
 
--- ---- declarations
+-- what a rule reads first, and the rest
+told : {A B : Type 0} {P Q : A → B → Type 0} (a : A) (b : B) → P a b → Q a b → (x : A) × (y : B) × P x y × Q x y
+told a b first next = (a, b, first, next)
 
 abbrev at : {A : Type 0} → ℕ → A → At A
 at place held = record { place = place; held = held }
 
-reads_xi : (rest : List Token) → decl (tokens_of 0 lines.declare_xi ++ rest) xi_decl rest
-reads_xi rest =
-    inl (inl (inl (
-      0,
-      _,
-      (3, refl),
-      (
-        kinds_of.Vec3,
-        _,
-        inr (4, _, (7, refl), (refl, refl)),
-        (
-          at 8 0,
-          _,
-          (10, refl),
-          (
-            at 11 (codes "xi"),
-            _,
-            (13, refl),
-            (14, _, (15, refl), (at 16 (codes "pos"), _, (19, refl), (19, _, (20, refl), (refl, refl)))),
-          ),
-        ),
-      ),
-    )))
+abbrev token_at : TokenKind → ℕ → ℕ → Token
+token_at kind place end = record { kind = kind; place = place; end = end }
 
-reads_xj : (rest : List Token) → decl (tokens_of 21 lines.declare_xj ++ rest) xj_decl rest
-reads_xj rest =
-    inl (inl (inr (
-      21,
-      _,
-      (24, refl),
-      (
-        kinds_of.Vec3,
-        _,
-        inr (25, _, (28, refl), (refl, refl)),
-        (
-          at 29 0,
-          _,
-          (31, refl),
-          (
-            at 32 (codes "xj"),
-            _,
-            (34, refl),
-            (35, _, (36, refl), (at 37 (codes "pos"), _, (40, refl), (40, _, (41, refl), (refl, refl)))),
-          ),
-        ),
-      ),
-    )))
+-- ---- declarations
 
-reads_mj : (rest : List Token) → decl (tokens_of 42 lines.declare_mj ++ rest) mj_decl rest
-reads_mj rest =
-    inl (inl (inr (
-      42,
-      _,
-      (45, refl),
-      (
-        kinds_of.Num,
-        _,
-        inl (46, _, (49, refl), (refl, refl)),
-        (
-          at 50 0,
-          _,
-          (52, refl),
-          (
-            at 53 (codes "mj"),
-            _,
-            (55, refl),
-            (56, _, (57, refl), (at 58 (codes "mass"), _, (62, refl), (62, _, (63, refl), (refl, refl)))),
-          ),
-        ),
-      ),
-    )))
+abbrev IsKindWord : Word → Kind → Type 0
+IsKindWord spelled of_kind = (place end : ℕ) (rest : List Token) → kind (token_at (kinds.Word spelled) place end ∷ rest) of_kind rest
 
-reads_acc : (rest : List Token) → decl (tokens_of 64 lines.declare_acc ++ rest) acc_decl rest
-reads_acc rest =
-    inl (inr (
-      64,
-      _,
-      (69, refl),
-      (
-        kinds_of.Vec3,
-        _,
-        inr (70, _, (73, refl), (refl, refl)),
-        (
-          at 74 16,
-          _,
-          (77, refl),
-          (
-            at 78 (codes "acc"),
-            _,
-            (81, refl),
-            (combines.Sum, _, inl (inl (82, _, (85, refl), (refl, refl))), (85, _, (86, refl), (refl, refl))),
-          ),
-        ),
-      ),
-    ))
+num_word : IsKindWord words.Num kinds_of.Num
+num_word place end rest = inl (told place _ (end, refl) (refl, refl))
 
-reads_g : (rest : List Token) → decl (tokens_of 87 lines.declare_g ++ rest) g_decl rest
-reads_g rest =
-    inr (
-      87,
-      _,
-      (92, refl),
-      (
-        at 93 16,
-        _,
-        (96, refl),
-        (
-          at 97 (codes "g"),
-          _,
-          (98, refl),
-          (
-            99,
-            _,
-            (100, refl),
-            (pos 72057594037927936, _, inl (at 101 72057594037927936, _, (118, refl), (refl, refl)), (118, _, (119, refl), (refl, refl))),
-          ),
-        ),
-      ),
-    )
+vec_word : IsKindWord words.Vec kinds_of.Vec3
+vec_word place end rest = inr (told place _ (end, refl) (refl, refl))
 
-reads_e : (rest : List Token) → decl (tokens_of 120 lines.declare_e ++ rest) e_decl rest
-reads_e rest =
-    inr (
-      120,
-      _,
-      (125, refl),
-      (
-        at 126 0,
-        _,
-        (128, refl),
-        (
-          at 129 (codes "e"),
-          _,
-          (130, refl),
-          (
-            131,
-            _,
-            (132, refl),
-            (pos 1099511627776, _, inl (at 133 1099511627776, _, (146, refl), (refl, refl)), (146, _, (147, refl), (refl, refl))),
-          ),
-        ),
-      ),
-    )
+field_read : (spelled of : Word) (what : Kind → ℕ → List ℕ → DeclKind) (of_kind : Kind) (place : ℕ) (called field : List ℕ) (rest : List Token) → IsKindWord of of_kind
+    → field_of spelled what (tokens_of place (lines.field_line spelled of called field) ++ rest) (decl_node place called (what of_kind 0 field)) rest
+field_read spelled of what of_kind place called field rest is =
+    told place _ (_, refl) (told of_kind _ (is _ _ _) (told (at _ 0) _ (_, refl) (told (at _ called) _ (_, refl) (told _ _ (_, refl) (told (at _ field) _ (_, refl) (told _ _ (_, refl) (refl, refl)))))))
+
+acc_read : (rest : List Token) → decl (tokens_of 64 lines.declare_acc ++ rest) acc_decl rest
+acc_read rest =
+    inl (inr (told 64 _ (_, refl) (told kinds_of.Vec3 _ (vec_word _ _ _) (told (at _ 16) _ (_, refl) (told (at _ (codes "acc")) _ (_, refl)
+    (told combines.Sum _ (inl (inl (told _ _ (_, refl) (refl, refl)))) (told _ _ (_, refl) (refl, refl))))))))
+
+param_read : (place bits value : ℕ) (bit_digits called value_digits : List ℕ) (rest : List Token)
+    → param (tokens_of place (lines.param_line bits bit_digits called value value_digits) ++ rest) (decl_node place called (declared_as.Param bits (pos value))) rest
+param_read place bits value bit_digits called value_digits rest =
+    told place _ (_, refl) (told (at _ bits) _ (_, refl) (told (at _ called) _ (_, refl) (told _ _ (_, refl)
+    (told (pos value) _ (inl (told (at _ value) _ (_, refl) (refl, refl))) (told _ _ (_, refl) (refl, refl))))))
 
 -- ---- expressions
-
-abbrev name_token : ℕ → ℕ → List ℕ → Token
-name_token place end called = record { kind = kinds.Name called; place = place; end = end }
 
 abbrev sums : Rule (At Op2)
 sums = operator symbols.Plus op2s.Add or operator symbols.Minus op2s.Sub
@@ -212,197 +104,70 @@ module _ (inside : Rule Expr) where
   alone : (tokens : List Token) (e : Expr) (rest : List Token) → prim inside tokens e rest → expr_over inside tokens e rest
   alone tokens e rest h = expr_of tokens e rest (only sums (prod inside) tokens e rest (prod_of tokens e rest h))
 
-  named : (place end : ℕ) (called : List ℕ) (rest : List Token) → prim inside (name_token place end called ∷ rest) (name_node place called) rest
+  named : (place end : ℕ) (called : List ℕ) (rest : List Token) → prim inside (token_at (kinds.Name called) place end ∷ rest) (name_node place called) rest
   named place end called rest = inl (inl (inr (at place called, rest, (end, refl), (refl, refl))))
 
-  name_alone : (place end : ℕ) (called : List ℕ) (rest : List Token) → expr_over inside (name_token place end called ∷ rest) (name_node place called) rest
-  name_alone place end called rest = alone (name_token place end called ∷ rest) (name_node place called) rest (named place end called rest)
+  name_alone : (place end : ℕ) (called : List ℕ) (rest : List Token) → expr_over inside (token_at (kinds.Name called) place end ∷ rest) (name_node place called) rest
+  name_alone place end called rest = alone (token_at (kinds.Name called) place end ∷ rest) (name_node place called) rest (named place end called rest)
+
+muldiv_read : (inside : Rule Expr) {place end p e q f r g s h : ℕ} {a b c : Expr} {ts us vs rest : List Token}
+    → inside ts a (token_at (kinds.Symbol symbols.Comma) q f ∷ us) → inside us b (token_at (kinds.Symbol symbols.Comma) r g ∷ vs) → inside vs c (token_at (kinds.Symbol symbols.CloseRound) s h ∷ rest)
+    → expr_over inside (token_at (kinds.Word words.Muldiv) place end ∷ token_at (kinds.Symbol symbols.OpenRound) p e ∷ ts) (node place (forms.Three op3s.Muldiv a b c)) rest
+muldiv_read inside {place = place} {a = a} {b = b} {c = c} x y z =
+    alone inside _ (node place (forms.Three op3s.Muldiv a b c)) _
+    (inr (inl (inr (told place _ (_, refl) (told _ _ (_, refl) (told a _ x (told _ _ (_, refl) (told b _ y (told _ _ (_, refl) (told c _ z (told _ _ (_, refl) (refl, refl))))))))))))
 
 -- ---- statements
+
+-- an assignment of a value that stands so many brackets deep
+set_read : (depth q f : ℕ) {place end p e : ℕ} {called : List ℕ} {value : Expr} {ts rest : List Token} → expr_within depth ts value (token_at (kinds.Symbol symbols.Semicolon) q f ∷ rest)
+    → stmt (token_at (kinds.Name called) place end ∷ token_at (kinds.Symbol symbols.Assign) p e ∷ ts) (stmt_node place (acts.Set called value)) rest
+set_read depth q f {place = place} {called = called} {value = value} h =
+    (0, inl (told (at place called) _ (_, refl) (told acts.Set _ (inl (told _ _ (_, refl) (refl, refl))) (told value _ (depth, h) (told _ _ (_, refl) (refl, refl))))))
+
+give_read : (depth q f : ℕ) {place end p e : ℕ} {called : List ℕ} {value : Expr} {ts rest : List Token} → expr_within depth ts value (token_at (kinds.Symbol symbols.Semicolon) q f ∷ rest)
+    → stmt (token_at (kinds.Name called) place end ∷ token_at (kinds.Symbol symbols.Add) p e ∷ ts) (stmt_node place (acts.Give called value)) rest
+give_read depth q f {place = place} {called = called} {value = value} h =
+    (0, inl (told (at place called) _ (_, refl) (told acts.Give _ (inr (told _ _ (_, refl) (refl, refl))) (told value _ (depth, h) (told _ _ (_, refl) (refl, refl))))))
 
 reads_d : (rest : List Token) → stmt (tokens_of 148 lines.assign_d ++ rest) d_stmt rest
 reads_d rest =
     let xj = prod_of never _ _ _ (named never 152 154 (codes "xj") _) in
     let xi = prod_of never _ _ _ (named never 157 159 (codes "xi") _) in
-    let difference = expr_of never _ d_value _ (pair sums (prod never) _ _ _ (at 155 op2s.Sub) _ _ _ xj (inr (155, _, (156, refl), (refl, refl))) xi) in
-    (0, inl (at 148 (codes "d"), _, (149, refl), (acts.Set, _, inl (150, _, (151, refl), (refl, refl)), (d_value, _, (0, difference), (159, _, (160, refl), (refl, refl))))))
+    set_read 0 _ _ (expr_of never _ d_value _ (pair sums (prod never) _ _ _ (at 155 op2s.Sub) _ _ _ xj (inr (told 155 _ (_, refl) (refl, refl))) xi))
 
 reads_r2 : (rest : List Token) → stmt (tokens_of 161 lines.assign_r2 ++ rest) r2_stmt rest
-reads_r2 rest = (
-  0,
-  inl (
-    at 161 (codes "r2"),
-    _,
-    (163, refl),
-    (
-      acts.Set,
-      _,
-      inl (164, _, (165, refl), (refl, refl)),
-      (
-        r2_value,
-        _,
-        (
-          0,
-          expr_of never _ r2_value _
-              (pair sums (prod never) _ d_squared _ (at 172 op2s.Add) _ _ _
-              (pair products (unary never) _ _ _ (at 168 op2s.Mul) _ _ _ (unary_of never _ _ _ (named never 166 167 (codes "d") _)) (inl (168, _, (169, refl), (refl, refl)))
-              (unary_of never _ _ _ (named never 170 171 (codes "d") _)))
-              (inl (172, _, (173, refl), (refl, refl))) (prod_of never _ _ _ (named never 174 175 (codes "e") _))),
-        ),
-        (175, _, (176, refl), (refl, refl)),
-      ),
-    ),
-  ),
-)
+reads_r2 rest =
+    let left = unary_of never _ _ _ (named never 166 167 (codes "d") _) in
+    let right = unary_of never _ _ _ (named never 170 171 (codes "d") _) in
+    let squared = pair products (unary never) _ _ _ (at 168 op2s.Mul) _ _ _ left (inl (told 168 _ (_, refl) (refl, refl))) right in
+    let softening = prod_of never _ _ _ (named never 174 175 (codes "e") _) in
+    set_read 0 _ _ (expr_of never _ r2_value _ (pair sums (prod never) _ d_squared _ (at 172 op2s.Add) _ _ _ squared (inl (told 172 _ (_, refl) (refl, refl))) softening))
 
 reads_r : (rest : List Token) → stmt (tokens_of 177 lines.assign_r ++ rest) r_stmt rest
-reads_r rest = (
-  0,
-  inl (
-    at 177 (codes "r"),
-    _,
-    (178, refl),
-    (
-      acts.Set,
-      _,
-      inl (179, _, (180, refl), (refl, refl)),
-      (
-        r_value,
-        _,
-        (
-          1,
-          alone (expr_within 0) _ r_value _
-              (inr (inl (inl (inl (inl (inl (inl (181, _, (186, refl), (186, _, (187, refl), (name_node 187 (codes "r2"), _, name_alone never 187 189 (codes "r2") _, (189, _, (190, refl), (refl, refl)))))))))))),
-        ),
-        (190, _, (191, refl), (refl, refl)),
-      ),
-    ),
-  ),
-)
+reads_r rest =
+    set_read 1 _ _ (alone (expr_within 0) _ r_value _
+    (inr (inl (inl (inl (inl (inl (inl (told 181 _ (_, refl) (told _ _ (_, refl) (told (name_node 187 (codes "r2")) _ (name_alone never 187 189 (codes "r2") _) (told _ _ (_, refl) (refl, refl)))))))))))))
 
 gives_acc : (rest : List Token) → stmt (tokens_of 192 lines.give_acc ++ rest) acc_stmt rest
-gives_acc rest = (
-  0,
-  inl (
-    at 192 (codes "acc"),
-    _,
-    (195, refl),
-    (
-      acts.Give,
-      _,
-      inr (196, _, (198, refl), (refl, refl)),
-      (
-        acc_value,
-        _,
-        (
-          2,
-          alone (expr_within 1) _ acc_value _
-              (inr (inl (inr (
-                199,
-                _,
-                (205, refl),
-                (
-                  205,
-                  _,
-                  (206, refl),
-                  (
-                    over_r,
-                    _,
-                    alone (expr_within 0) _ over_r _
-                        (inr (inl (inr (
-                          206,
-                          _,
-                          (212, refl),
-                          (
-                            212,
-                            _,
-                            (213, refl),
-                            (
-                              name_node 213 (codes "g"),
-                              _,
-                              name_alone never 213 214 (codes "g") _,
-                              (
-                                214,
-                                _,
-                                (215, refl),
-                                (
-                                  name_node 216 (codes "mj"),
-                                  _,
-                                  name_alone never 216 218 (codes "mj") _,
-                                  (
-                                    218,
-                                    _,
-                                    (219, refl),
-                                    (name_node 220 (codes "r"), _, name_alone never 220 221 (codes "r") _, (221, _, (222, refl), (refl, refl))),
-                                  ),
-                                ),
-                              ),
-                            ),
-                          ),
-                        )))),
-                    (
-                      222,
-                      _,
-                      (223, refl),
-                      (
-                        name_node 224 (codes "d"),
-                        _,
-                        name_alone (expr_within 0) 224 225 (codes "d") _,
-                        (
-                          225,
-                          _,
-                          (226, refl),
-                          (name_node 227 (codes "r2"), _, name_alone (expr_within 0) 227 229 (codes "r2") _, (229, _, (230, refl), (refl, refl))),
-                        ),
-                      ),
-                    ),
-                  ),
-                ),
-              )))),
-        ),
-        (230, _, (231, refl), (refl, refl)),
-      ),
-    ),
-  ),
-)
+gives_acc rest =
+    let inner = muldiv_read (expr_within 0) (name_alone never 213 214 (codes "g") _) (name_alone never 216 218 (codes "mj") _) (name_alone never 220 221 (codes "r") _) in
+    give_read 2 _ _ (muldiv_read (expr_within 1) inner (name_alone (expr_within 0) 224 225 (codes "d") _) (name_alone (expr_within 0) 227 229 (codes "r2") _))
 
 -- ---- the whole text
 
-record Line : Type 0 where
-  pieces : List Piece
-  stand : (rest : List ℕ) → AllStand pieces rest
-
-abbrev pieces_of : List Line → List Piece
-pieces_of [] = []
-pieces_of (l ∷ ls) = l.pieces ++ pieces_of ls
-
-abbrev text_of_lines : List Line → List ℕ
-text_of_lines [] = []
-text_of_lines (l ∷ ls) = text_of l.pieces ++ text_of_lines ls
-
-abbrev all_lines : List Line
-all_lines =
-    record { pieces = lines.declare_xi; stand = lines.declare_xi-stand }
-    ∷ record { pieces = lines.declare_xj; stand = lines.declare_xj-stand }
-    ∷ record { pieces = lines.declare_mj; stand = lines.declare_mj-stand }
-    ∷ record { pieces = lines.declare_acc; stand = lines.declare_acc-stand }
-    ∷ record { pieces = lines.declare_g; stand = lines.declare_g-stand }
-    ∷ record { pieces = lines.declare_e; stand = lines.declare_e-stand }
-    ∷ record { pieces = lines.assign_d; stand = lines.assign_d-stand }
-    ∷ record { pieces = lines.assign_r2; stand = lines.assign_r2-stand }
-    ∷ record { pieces = lines.assign_r; stand = lines.assign_r-stand }
-    ∷ record { pieces = lines.give_acc; stand = lines.give_acc-stand } ∷ []
-
 abbrev bench_tokens : List Token
-bench_tokens = tokens_of 0 (pieces_of all_lines)
+bench_tokens = tokens_of 0 bench_pieces
 
 spelled : SpellsKernel bench_tokens bench_kernel
-spelled = (
-  bench_kernel.decls,
-  _,
-  (_, reads_xi _, (_, reads_xj _, (_, reads_mj _, (_, reads_acc _, (_, reads_g _, (_, reads_e _, refl)))))),
-  (bench_kernel.body, [], (_, reads_d _, (_, reads_r2 _, (_, reads_r _, (_, gives_acc [], refl)))), (refl, refl)),
-)
+spelled =
+    let xi = inl (inl (inl (field_read words.Epi words.Vec declared_as.Epi kinds_of.Vec3 0 (codes "xi") (codes "pos") _ vec_word))) in
+    let xj = inl (inl (inr (field_read words.Epj words.Vec declared_as.Epj kinds_of.Vec3 21 (codes "xj") (codes "pos") _ vec_word))) in
+    let mj = inl (inl (inr (field_read words.Epj words.Num declared_as.Epj kinds_of.Num 42 (codes "mj") (codes "mass") _ num_word))) in
+    let g = inr (param_read 87 16 72057594037927936 (codes "16") (codes "g") (codes "72057594037927936") _) in
+    let e = inr (param_read 120 0 1099511627776 (codes "0") (codes "e") (codes "1099511627776") _) in
+    told bench_kernel.decls _ (_, xi, (_, xj, (_, mj, (_, acc_read _, (_, g, (_, e, refl))))))
+    (told bench_kernel.body _ (_, reads_d _, (_, reads_r2 _, (_, reads_r _, (_, gives_acc [], refl)))) (refl, refl))
 
 -- ---- brackets
 
@@ -410,17 +175,13 @@ abbrev stays_shallow : ℕ → List Token → Bool
 stays_shallow depth [] = true
 stays_shallow depth (t ∷ ts) = leb (brackets_after depth t.kind) 32 && stays_shallow (brackets_after depth t.kind) ts
 
-both_true : (a b : Bool) → a && b ≡ true → (a ≡ true) × (b ≡ true)
-both_true true b e = (refl, e)
-both_true false b e = absurd cc
-
 taken : (ts : List Token) (n depth : ℕ) → depth ≤ 32 → stays_shallow depth ts ≡ true → fold (λ (d : ℕ) (t : Token). brackets_after d t.kind) depth (take n ts) ≤ 32
 taken [] zero depth limit h = limit
 taken [] (suc n) depth limit h = limit
 taken (t ∷ ts) zero depth limit h = limit
 taken (t ∷ ts) (suc n) depth limit h =
     let next = brackets_after depth t.kind in
-    let parts = both_true (leb next 32) (stays_shallow next ts) h in
+    let parts = both_pass (leb next 32) (stays_shallow next ts) h in
     taken ts n next (leb-true next 32 parts.0) parts.1
 
 shallow : IsShallow bench_tokens
@@ -471,14 +232,10 @@ module _ (nodes : NodesByForm) where
 -- ---- the kernel
 
 module _ (stopped : (piece : Piece) (rest : List ℕ) → IsPiece piece → StopsBefore piece rest → Begins (piece.bytes ++ rest) piece rest) where
-  lines_split : (ls : List Line) → Splits (text_of_lines ls) (pieces_of ls) []
-  lines_split [] = refl
-  lines_split (l ∷ ls) = splits stopped l.pieces (pieces_of ls) (text_of_lines ls) (l.stand (text_of_lines ls)) (lines_split ls)
-
   pub kernel_stands : NodesByForm → IsBenchKernel bench_kernel
   kernel_stands nodes = (
     bench_tokens,
-    record { pieces = pieces_of all_lines; whole = lines_split all_lines; tokens_are = refl },
+    record { pieces = bench_pieces; whole = splits stopped bench_pieces all_pieces_stand; tokens_are = refl },
     record { spelled = spelled; shallow = shallow; few = few_nodes nodes },
     kernel_typed,
   )

@@ -1,8 +1,7 @@
 -- The benchmark's kernel is well typed: its types, form by form.
-use Rattle.std.proofs.Common.{◌≡◌, ℕ, List, [], ◌∷◌, Ok, refl, sym, ap, ◌∙◌}
+use Rattle.std.proofs.Common.{◌≡◌, ℕ, List, [], ◌∷◌, Ok, refl, ap, ◌∙◌}
 use Rattle.std.specs.Prelude.{codes}
 use Rattle.kern_tree.specs.declared.expr.Expr.{Expr}
-use Rattle.kern_tree.specs.declared.expr.Form.TheFolds.{fold-Expr, fold-roll-Form, fold_out-Expr}
 use Rattle.kern_tree.specs.declared.expr.Form.TheOpen as layers
 use Rattle.kern_tree.specs.declared.expr.Form.TheVariants as forms
 use Rattle.kern_tree.specs.declared.expr.Op1.{Op1}
@@ -14,51 +13,39 @@ use Rattle.kern_tree.specs.declared.expr.Op3.TheVariants as op3s
 use Rattle.kern_tree.specs.declared.kernel.Decl.{Decl}
 use Rattle.kern_tree.specs.declared.kernel.Kind.{Kind}
 use Rattle.kern_tree.specs.declared.kernel.Kind.TheVariants.{Num, Vec3}
-use Rattle.kern_tree.specs.declared.stmt.Act.TheFolds.{fold-roll-Act}
-use Rattle.kern_tree.specs.declared.stmt.Act.TheOpen as act_layers
 use Rattle.kern_tree.specs.declared.stmt.Act.TheVariants as acts
 use Rattle.kern_tree.specs.declared.stmt.Stmt.{Stmt}
 use Rattle.kern_tree.specs.Grammar.{node, stmt_node}
+use Rattle.kern_tree.proofs.Layers.{name_layer, one_layer, two_layer, three_layer, set_layer, give_layer}
 use Rattle.kern_types.specs.declared.expr_type.ExprType.{ExprType}
 use Rattle.kern_types.specs.declared.expr_type.ExprType.TheVariants.{Scaled}
 use Rattle.kern_types.specs.Forms.{one_type, two_type, three_type}
-use Rattle.kern_types.specs.Names.{at_place, form_type, form_typing, name_type, type_of}
+use Rattle.kern_types.specs.Names.{at_place, form_typing, name_type, type_of}
 use Rattle.kern_types.specs.Scopes.{Scope}
-use Rattle.kern_types.specs.Statements.{ScopeChange, act_after, act_scope, at_stmt_place, give_check, set_after, set_check, stmt_after, stmts_after, with_assigned}
-use Rattle.kern_types.specs.Steps.{OrFault, ◌>>=◌, ◌>>◌, pass}
+use Rattle.kern_types.specs.Statements.{act_after, at_stmt_place, give_check, set_after, set_check, stmt_after, stmts_after, with_assigned}
+use Rattle.kern_types.specs.Steps.{◌>>=◌, ◌>>◌, pass}
 use Rattle.kern_types.specs.WellTyped.{WellTyped, at_start}
 use Rattle.bench_input.proofs.Tree.{bench_kernel, name_node, d_value, d_squared, r2_value, r_value, over_r, acc_value, d_stmt, r2_stmt, r_stmt, acc_stmt}
 
 -- ---- expressions
 
 module _ (decls : List Decl) (scope : Scope) where
-  by_fold : (e : Expr) → fold-Expr (ℕ → OrFault ExprType) (OrFault ExprType) (form_typing decls scope) at_place e ≡ type_of decls scope e
-  by_fold e = fold_out-Expr (ℕ → OrFault ExprType) (OrFault ExprType) (form_typing decls scope) at_place e
-
   name_typed : (place : ℕ) (called : List ℕ) (t : ExprType) → name_type decls scope place called ≡ Ok t → type_of decls scope (name_node place called) ≡ Ok t
-  name_typed place called t h =
-      ap (λ form. form_type decls scope form place) (sym (forms.rolls-Name called))
-      ∙ ap (λ f. f place) (fold-roll-Form (ℕ → OrFault ExprType) (OrFault ExprType) (form_typing decls scope) at_place (layers.Name called)) ∙ h
+  name_typed place called t h = ap (λ f. f place) (name_layer (form_typing decls scope) at_place called) ∙ h
 
   one_typed : (place : ℕ) (op : Op1) (a : Expr) (s t : ExprType) → type_of decls scope a ≡ Ok s → one_type place op s ≡ Ok t → type_of decls scope (node place (forms.One op a)) ≡ Ok t
   one_typed place op a s t h k =
-      ap (λ form. form_type decls scope form place) (sym (forms.rolls-One op a))
-      ∙ ap (λ f. f place) (fold-roll-Form (ℕ → OrFault ExprType) (OrFault ExprType) (form_typing decls scope) at_place (layers.One op a))
-      ∙ (λ i. form_typing decls scope (layers.One op ((by_fold a ∙ h) i)) place) ∙ k
+      ap (λ f. f place) (one_layer (form_typing decls scope) at_place op a) ∙ (λ i. form_typing decls scope (layers.One op (h i)) place) ∙ k
 
   two_typed : (place : ℕ) (op : Op2) (a b : Expr) (s t u : ExprType) → type_of decls scope a ≡ Ok s → type_of decls scope b ≡ Ok t → two_type place op s t ≡ Ok u
       → type_of decls scope (node place (forms.Two op a b)) ≡ Ok u
   two_typed place op a b s t u h k l =
-      ap (λ form. form_type decls scope form place) (sym (forms.rolls-Two op a b))
-      ∙ ap (λ f. f place) (fold-roll-Form (ℕ → OrFault ExprType) (OrFault ExprType) (form_typing decls scope) at_place (layers.Two op a b))
-      ∙ (λ i. form_typing decls scope (layers.Two op ((by_fold a ∙ h) i) ((by_fold b ∙ k) i)) place) ∙ l
+      ap (λ f. f place) (two_layer (form_typing decls scope) at_place op a b) ∙ (λ i. form_typing decls scope (layers.Two op (h i) (k i)) place) ∙ l
 
   three_typed : (place : ℕ) (op : Op3) (a b c : Expr) (s t u v : ExprType) → type_of decls scope a ≡ Ok s → type_of decls scope b ≡ Ok t → type_of decls scope c ≡ Ok u → three_type place op s t u ≡ Ok v
       → type_of decls scope (node place (forms.Three op a b c)) ≡ Ok v
   three_typed place op a b c s t u v h k l m =
-      ap (λ form. form_type decls scope form place) (sym (forms.rolls-Three op a b c))
-      ∙ ap (λ f. f place) (fold-roll-Form (ℕ → OrFault ExprType) (OrFault ExprType) (form_typing decls scope) at_place (layers.Three op a b c))
-      ∙ (λ i. form_typing decls scope (layers.Three op ((by_fold a ∙ h) i) ((by_fold b ∙ k) i) ((by_fold c ∙ l) i)) place) ∙ m
+      ap (λ f. f place) (three_layer (form_typing decls scope) at_place op a b c) ∙ (λ i. form_typing decls scope (layers.Three op (h i) (k i) (l i)) place) ∙ m
 
 -- ---- statements
 
@@ -66,15 +53,13 @@ module _ (decls : List Decl) where
   set_typed : (scope : Scope) (place : ℕ) (name : List ℕ) (value : Expr) (kind : Kind) (scale : ℕ) → type_of decls scope value ≡ Ok (Scaled kind scale) → set_check decls place name kind scale scope ≡ pass
       → stmt_after decls (stmt_node place (acts.Set name value)) scope ≡ Ok (with_assigned scope name kind scale)
   set_typed scope place name value kind scale h k =
-      ap (λ act. act_scope decls act place scope) (sym (acts.rolls-Set name value))
-      ∙ ap (λ f. f place scope) (fold-roll-Act (ℕ → ScopeChange) ScopeChange (act_after decls) at_stmt_place (act_layers.Set name value))
+      ap (λ f. f place scope) (set_layer (act_after decls) at_stmt_place name value)
       ∙ ap (λ type. type >>= (λ t. set_after decls place name t scope)) h ∙ ap (λ check. check >> Ok (with_assigned scope name kind scale)) k
 
   give_typed : (scope : Scope) (place : ℕ) (name : List ℕ) (value : Expr) (t : ExprType) → type_of decls scope value ≡ Ok t → give_check decls place name scope t ≡ pass
       → stmt_after decls (stmt_node place (acts.Give name value)) scope ≡ Ok scope
   give_typed scope place name value t h k =
-      ap (λ act. act_scope decls act place scope) (sym (acts.rolls-Give name value))
-      ∙ ap (λ f. f place scope) (fold-roll-Act (ℕ → ScopeChange) ScopeChange (act_after decls) at_stmt_place (act_layers.Give name value))
+      ap (λ f. f place scope) (give_layer (act_after decls) at_stmt_place name value)
       ∙ ap (λ type. (type >>= (λ u. give_check decls place name scope u)) >> Ok scope) h ∙ ap (λ check. check >> Ok scope) k
 
   then : (s : Stmt) (ss : List Stmt) (scope next end : Scope) → stmt_after decls s scope ≡ Ok next → stmts_after decls ss next ≡ Ok end → stmts_after decls (s ∷ ss) scope ≡ Ok end
