@@ -1,3 +1,4 @@
+mod kernels;
 mod pairs;
 mod parsing;
 mod printing;

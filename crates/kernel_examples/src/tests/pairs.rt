@@ -1,7 +1,7 @@
 ghost use Rattle.std.specs.Prelude.{◌^◌, ◌<◌, ◌≤◌, unsigned_abs};
 ghost use Rattle.pf_model.specs.Particle.{IsMass};
 
-use super::read;
+use super::{kernels, read};
 use kern_meaning::{PairFault, PairKind, for_kernel, pair, slot};
 use kern_types::{check, slots};
 use pf_geom::Point;
@@ -9,65 +9,6 @@ use pf_model::{Body, Item};
 use std::alloc::{AllocError, Global};
 use std::process::Abort;
 use std::test::Fail;
-
-const PULL: &str = "\
-EPI vec S0 xi : pos;
-EPJ vec S0 xj : pos;
-FORCE vec S16 acc sum;
-FORCE vec S0 pull sum;
-pull += xj - xi;
-";
-
-const GRAVITY: &str = "\
-EPI vec S0 xi : pos;
-EPJ vec S0 xj : pos;
-EPJ num S0 mj : mass;
-FORCE vec S16 acc sum;
-FORCE num S0 top max;
-PARAM S16 g = 1000000;
-d = xj - xi;
-r2 = d * d;
-r = isqrt(r2);
-acc += muldiv(g * mj, d, r2) / r;
-top += r2;
-";
-
-const SOFTENED: &str = "\
-EPI vec S0 xi : pos;
-EPJ vec S0 xj : pos;
-EPJ num S0 mj : mass;
-FORCE vec S16 acc sum;
-PARAM S16 g = 1000000;
-PARAM S0 e = 1;
-d = xj - xi;
-r2 = d * d + e;
-r = isqrt(r2);
-acc += muldiv(g * mj, d, r2) / r;
-";
-
-const GUARDED: &str = "\
-EPI vec S0 xi : pos;
-EPJ vec S0 xj : pos;
-EPJ num S0 mj : mass;
-FORCE vec S16 acc sum;
-PARAM S16 g = 1000000;
-d = xj - xi;
-r2 = d * d;
-r = isqrt(r2);
-if r2 > 0 {
-  acc += muldiv(g * mj, d, r2) / r;
-}
-";
-
-const OF_HEAVY: &str = "\
-EPI num S0 mi : mass;
-EPJ num S0 cj : c0;
-FORCE vec S16 acc sum;
-FORCE num S22 n sum;
-if mi == 9 {
-  n += to(22, cj);
-}
-";
 
 fn point(x: u32) -> Point
     requires { x < 2 ^ 30 }
@@ -159,7 +100,7 @@ fn counts(
 fn a_difference_pulls_along_each_axis(rt: HostRuntime) -> Result<(), Fail> {
     let i = particle(point(0), 1);
     let j = item(Point { x: 3, y: 4, z: 0 }, 1, 0);
-    gives(&rt, rt.alloc(), PULL, i, j, Ok(Some([3, 4, 0])))
+    gives(&rt, rt.alloc(), kernels::PULL, i, j, Ok(Some([3, 4, 0])))
 }
 
 #[test]
@@ -169,7 +110,7 @@ fn gravity_is_scaled_by_the_cube_of_the_distance(rt: HostRuntime) -> Result<(), 
     gives(
         &rt,
         rt.alloc(),
-        GRAVITY,
+        kernels::GRAVITY_AND_A_GREATEST,
         i,
         j,
         Ok(Some([24_000, 32_000, 0])),
@@ -179,7 +120,7 @@ fn gravity_is_scaled_by_the_cube_of_the_distance(rt: HostRuntime) -> Result<(), 
 #[test]
 fn each_slot_has_what_its_statement_gave(rt: HostRuntime) -> Result<(), Fail> {
     let alloc = rt.alloc();
-    let t = check(alloc, read(&rt, alloc, GRAVITY)?)?;
+    let t = check(alloc, read(&rt, alloc, kernels::GRAVITY_AND_A_GREATEST)?)?;
     let mut s = for_kernel(alloc, &t)?;
     let i = particle(point(0), 1);
     let j = item(point(1_073_741_823), 1, 0);
@@ -195,9 +136,23 @@ fn a_divisor_0_at_one_place_is_coincident(rt: HostRuntime) -> Result<(), Fail> {
     let alloc = rt.alloc();
     let i = particle(point(10), 1);
     let j = item(point(10), 1, 0);
-    gives(&rt, alloc, GRAVITY, i, j, faults(PairKind::Coincident, 4))?;
-    gives(&rt, alloc, SOFTENED, i, j, Ok(Some([0, 0, 0])))?;
-    gives(&rt, alloc, GUARDED, i, j, Ok(None))
+    gives(
+        &rt,
+        alloc,
+        kernels::GRAVITY_AND_A_GREATEST,
+        i,
+        j,
+        faults(PairKind::Coincident, 4),
+    )?;
+    gives(
+        &rt,
+        alloc,
+        kernels::SOFTENED_GRAVITY,
+        i,
+        j,
+        Ok(Some([0, 0, 0])),
+    )?;
+    gives(&rt, alloc, kernels::GUARDED_GRAVITY, i, j, Ok(None))
 }
 
 #[test]
@@ -217,8 +172,22 @@ fn an_untaken_block_gives_nothing(rt: HostRuntime) -> Result<(), Fail> {
     let alloc = rt.alloc();
     let j = item(point(1), 1, -1_099_511_627_776);
     let given = Ok(Some([-4_611_686_018_427_387_904, 0, 0]));
-    gives(&rt, alloc, OF_HEAVY, particle(point(0), 9), j, given)?;
-    gives(&rt, alloc, OF_HEAVY, particle(point(0), 8), j, Ok(None))
+    gives(
+        &rt,
+        alloc,
+        kernels::A_CONDITION,
+        particle(point(0), 9),
+        j,
+        given,
+    )?;
+    gives(
+        &rt,
+        alloc,
+        kernels::A_CONDITION,
+        particle(point(0), 8),
+        j,
+        Ok(None),
+    )
 }
 
 #[test]

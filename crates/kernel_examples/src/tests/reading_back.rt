@@ -1,4 +1,4 @@
-use super::read;
+use super::{kernels, read};
 use kern_print::print;
 use std::alloc::Global;
 use std::process::Abort;
@@ -14,123 +14,23 @@ fn is_printed_as(rt: &impl Abort, alloc: Global, text: &str, wanted: &str) -> Re
     Ok(())
 }
 
-const A_PULL: &str = "\
-EPI vec S0 xi : pos;
-EPJ vec S0 xj : pos;
-FORCE vec S16 acc sum;
-FORCE vec S0 pull sum;
-pull += xj - xi;
-";
-
-const GRAVITY: &str = "\
-EPI vec S0 xi : pos;
-EPJ vec S0 xj : pos;
-EPJ num S0 mj : mass;
-FORCE vec S16 acc sum;
-PARAM S16 g = 1000000;
-d = xj - xi;
-r2 = d * d;
-r = isqrt(r2);
-acc += muldiv(g * mj, d, r2) / r;
-";
-
-const SOFTENED_GRAVITY: &str = "\
-EPI vec S0 xi : pos;
-EPJ vec S0 xj : pos;
-EPJ num S0 mj : mass;
-FORCE vec S16 acc sum;
-PARAM S16 g = 1000000;
-PARAM S0 e = 1;
-d = xj - xi;
-r2 = d * d + e;
-r = isqrt(r2);
-acc += muldiv(g * mj, d, r2) / r;
-";
-
-const GRAVITY_AND_A_GREATEST: &str = "\
-EPI vec S0 xi : pos;
-EPJ vec S0 xj : pos;
-EPJ num S0 mj : mass;
-FORCE vec S16 acc sum;
-FORCE num S0 top max;
-PARAM S16 g = 1000000;
-d = xj - xi;
-r2 = d * d;
-r = isqrt(r2);
-acc += muldiv(g * mj, d, r2) / r;
-top += r2;
-";
-
-const A_QUOTIENT: &str = "\
-EPJ num S0 mj : mass;
-FORCE vec S16 acc sum;
-FORCE num S0 n sum;
-n += 1 / (mj - 5);
-";
-
-const A_CONDITION: &str = "\
-EPI num S0 mi : mass;
-EPJ num S0 cj : c0;
-FORCE vec S16 acc sum;
-FORCE num S22 n sum;
-if mi == 9 {
-  n += to(22, cj);
-}
-";
-
-const GUARDED_GRAVITY: &str = "\
-EPI vec S0 xi : pos;
-EPJ vec S0 xj : pos;
-EPJ num S0 mj : mass;
-FORCE vec S16 acc sum;
-PARAM S16 g = 1000000;
-d = xj - xi;
-r2 = d * d;
-r = isqrt(r2);
-if r2 > 0 {
-  acc += muldiv(g * mj, d, r2) / r;
-}
-";
-
-const A_QUOTIENT_OF_THE_RECEIVER: &str = "\
-EPI num S0 mi : mass;
-FORCE vec S16 acc sum;
-FORCE num S0 n sum;
-n += 1 / (mi - 5);
-";
-
-const A_ROOT: &str = "\
-EPJ num S0 mj : mass;
-FORCE vec S16 acc sum;
-FORCE num S0 n sum;
-n += isqrt(0 - mj);
-";
-
-const A_PRODUCT: &str = "\
-EPJ num S0 mj : mass;
-FORCE vec S16 acc sum;
-FORCE num S0 n sum;
-n += mj * 9223372036854775807;
-";
-
 #[test]
 fn canonical_kernels_are_printed_as_they_were_read(rt: HostRuntime) -> Result<(), Fail> {
     let alloc = rt.alloc();
-    is_printed_as(&rt, alloc, A_PULL, A_PULL)?;
-    is_printed_as(&rt, alloc, GRAVITY, GRAVITY)?;
-    is_printed_as(&rt, alloc, SOFTENED_GRAVITY, SOFTENED_GRAVITY)?;
-    is_printed_as(&rt, alloc, GRAVITY_AND_A_GREATEST, GRAVITY_AND_A_GREATEST)?;
-    is_printed_as(&rt, alloc, A_QUOTIENT, A_QUOTIENT)?;
-    is_printed_as(&rt, alloc, A_CONDITION, A_CONDITION)?;
-    is_printed_as(&rt, alloc, GUARDED_GRAVITY, GUARDED_GRAVITY)?;
-    is_printed_as(
-        &rt,
-        alloc,
-        A_QUOTIENT_OF_THE_RECEIVER,
-        A_QUOTIENT_OF_THE_RECEIVER,
-    )?;
-    is_printed_as(&rt, alloc, A_ROOT, A_ROOT)?;
-    is_printed_as(&rt, alloc, A_PRODUCT, A_PRODUCT)?;
+    for text in [
+        kernels::PULL,
+        kernels::GRAVITY,
+        kernels::SOFTENED_GRAVITY,
+        kernels::GRAVITY_AND_A_GREATEST,
+        kernels::A_QUOTIENT,
+        kernels::A_CONDITION,
+        kernels::GUARDED_GRAVITY,
+        kernels::A_QUOTIENT_OF_THE_RECEIVER,
+        kernels::A_ROOT,
+        kernels::A_PRODUCT,
+    ] {
+        is_printed_as(&rt, alloc, text, text)?;
+    }
     Ok(())
 }
 

@@ -1,4 +1,4 @@
-use super::read;
+use super::{kernels, read};
 use kern_tree::{Combine, Kind};
 use kern_types::{TypeFault, Typed, check, forces, kernel, slots, targets};
 use std::alloc::{AllocError, Global};
@@ -39,30 +39,6 @@ fn after_acc(alloc: Global, text: &str) -> Result<String, AllocError> {
     format!(in alloc; "FORCE vec S16 acc sum;\n{text}")
 }
 
-const GRAVITY: &str = "\
-EPI vec S0 xi : pos;
-EPJ vec S0 xj : pos;
-EPJ num S0 mj : mass;
-FORCE vec S16 acc sum;
-FORCE num S0 top max;
-PARAM S16 g = 1000000;
-d = xj - xi;
-r2 = d * d;
-r = isqrt(r2);
-acc += muldiv(g * mj, d, r2) / r;
-top += r2;
-";
-
-const A_CONDITION: &str = "\
-EPI num S0 mi : mass;
-EPJ num S0 cj : c0;
-FORCE vec S16 acc sum;
-FORCE num S22 n sum;
-if mi == 9 {
-  n += to(22, cj);
-}
-";
-
 const IN_BLOCKS: &str = "\
 EPI num S0 mi : mass;
 FORCE vec S16 acc sum;
@@ -79,7 +55,7 @@ top += 1;
 #[test]
 fn a_typed_kernel_tells_its_forces_and_contributions(rt: HostRuntime) -> Result<(), Fail> {
     let alloc = rt.alloc();
-    let t = typed(&rt, alloc, GRAVITY)??;
+    let t = typed(&rt, alloc, kernels::GRAVITY_AND_A_GREATEST)??;
     assert_eq!(rt; kernel(&t).decls.as_slice().len(), 6);
     assert_eq!(rt; forces(&t).len(), 2);
     let acc = &forces(&t)[0];
@@ -100,7 +76,7 @@ fn a_typed_kernel_tells_its_forces_and_contributions(rt: HostRuntime) -> Result<
 
 #[test]
 fn a_contribution_in_a_block_is_one(rt: HostRuntime) -> Result<(), Fail> {
-    is_typed(&rt, rt.alloc(), A_CONDITION, 2, 1)
+    is_typed(&rt, rt.alloc(), kernels::A_CONDITION, 2, 1)
 }
 
 #[test]
