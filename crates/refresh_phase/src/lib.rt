@@ -13,3 +13,4 @@ mod renewing;
 pub use kept_rank::KeptRank;
 pub use laws::{builds_begin_as_kept, kept_groups_have_their_lists};
 pub use phases::{Refreshed, refresh_all};
+pub use present::present_bodies;

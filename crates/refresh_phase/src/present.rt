@@ -14,19 +14,27 @@ use list_reuse::{Refresh, refreshed};
 use morton_tree::Tree;
 use pf_model::{Body, Terms};
 use pf_num::OutOfMemory;
-use std::alloc::Global;
+use std::alloc::{AllocError, Global};
 
 /// Bodies in their order, each as it is now; the bodies of now are given by ascending id.
-pub(crate) fn present_bodies(
+pub fn present_bodies(
     alloc: Global,
     bodies: &[Body],
     now: &[Body],
 ) -> Result<Vec<Body>, OutOfMemory>
     requires { IsStrictlyIncreasing (map (λ p. p.id) now.now) }
+    ensures bodies { IfOk result (λ present. present.items ≡ map (as_in now.now) bodies.now) }
+    ensures ids { IfOk result (λ present. map (λ p. p.id) present.items ≡ map (λ p. p.id) bodies.now) }
+{
+    let present = as_in_all(alloc, bodies, now)?;
+    Ok(present)
+}
+
+fn as_in_all(alloc: Global, bodies: &[Body], now: &[Body]) -> Result<Vec<Body>, AllocError>
+    requires { IsStrictlyIncreasing (map (λ p. p.id) now.now) }
     ensures { IfOk result (λ present. present.items ≡ map (as_in now.now) bodies.now) }
 {
-    let present = bodies.iter().map(|body| as_in(now, body)).collect(alloc)?;
-    Ok(present)
+    bodies.iter().map(|body| as_in(now, body)).collect(alloc)
 }
 
 // The body with the id of this one, if there is one.
