@@ -1,4 +1,3 @@
-mod CornerLemmas
 mod PieceLemmas
 mod SlabLemmas
 mod OwnedLemmas

@@ -5,7 +5,8 @@ use Rattle.std.proofs.lemmas.List.Sums.{count_by-le-length, length-filter}
 use Rattle.pf_geom.specs.declared.axis.Axis.{Axis}
 use Rattle.pf_model.specs.Particle.{Particle}
 use Rattle.pf_model.specs.Domains.{slab_of}
-use Rattle.plain_run.specs.Axes.{along, in_slab_along}
+use Rattle.pf_geom.specs.Position.{along}
+use Rattle.pf_model.specs.Domains.{in_slab_along}
 
 -- a slab has no more particles than there are
 pub slab_short : (axis : Axis) (cuts : List ℕ) (js : List Particle) (slab : ℕ) → length (in_slab_along axis cuts js slab) ≤ length js

@@ -1,4 +1,3 @@
-pub mod Axes
 pub mod Boxes
 pub mod Lists
 pub mod Forces

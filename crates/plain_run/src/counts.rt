@@ -4,11 +4,10 @@ ghost use Rattle.run_model.specs.Text as rules;
 ghost use Rattle.plain_run.specs.Runs.{counts_by};
 
 use crate::domains::particles_of;
-use crate::grouping::group_cells;
 use crate::listing::{lists_of, rank_count, received_by};
 use crate::setup::RunSetup;
 use model_laws::groups_are_few;
-use pf_model::{Body, Entry, Grid, Theta};
+use pf_model::{Body, Entry, Grid, Theta, slow_group_cells};
 use pf_num::OutOfMemory;
 use run_model::RankLine;
 use std::alloc::Global;
@@ -55,7 +54,7 @@ fn counts_by(
 {
     groups_are_few();
     let own = particles_of(alloc, built, grid, rank)?;
-    let cells = group_cells(alloc, &own, limit)?;
+    let cells = slow_group_cells(alloc, &own, limit)?;
     let received = received_by(alloc, grid, theta, built, rank)?;
     let lists = lists_of(alloc, grid, theta, limit, built, rank)?;
     Ok(RankLine {

@@ -1,7 +1,8 @@
 ghost use Rattle.std.specs.Prelude.{◌≡◌, ◌*◌, ◌/◌, ◌^◌, ◌≤◌, IfOk, length, map, slice_index_or};
 ghost use Rattle.pf_model.specs.declared.limits.TheConstants.{MOST_PARTICLES, MOST_RANKS};
 ghost use Rattle.pf_model.specs.Domains as rules;
-ghost use Rattle.plain_run.specs.Axes.{along, in_slab_along};
+ghost use Rattle.pf_geom.specs.Position.{along};
+ghost use Rattle.pf_model.specs.Domains.{in_slab_along};
 
 use crate::ordering::{coordinate, in_order};
 use pf_geom::Axis;

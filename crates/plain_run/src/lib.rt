@@ -7,7 +7,6 @@ mod cutting;
 mod domains;
 mod essential;
 mod forces;
-mod grouping;
 mod kept;
 mod listing;
 mod ordering;

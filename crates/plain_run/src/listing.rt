@@ -3,16 +3,19 @@ ghost use Rattle.std.specs.List.{range_with_len};
 ghost use Rattle.pf_model.specs.Particles.{AreBodies};
 ghost use Rattle.pf_model.specs.Division.{IsDivision, rank_count};
 ghost use Rattle.pf_model.specs.EssentialTree.{essential_tree};
+ghost use Rattle.pf_model.specs.Group.{particles_in, box_of};
 ghost use Rattle.pf_model.specs.Groups.{groups_of_rank, group_with, group_list};
 ghost use Rattle.pf_model.specs.Reuse.{as_in, kept_group_list};
 ghost use Rattle.plain_run.specs.Lists.{HasMembers, HaveOneOrder};
 
 use crate::domains::{particles_of, slow_owner};
 use crate::essential::slow_essential;
-use crate::grouping::{box_of_cell, group_cell, group_cells};
 use crate::kept::{found, kept_list};
 use model_laws::lists_are_short;
-use pf_model::{Body, Entry, Grid, Theta, slow_list};
+use pf_geom::{Box3, Cell};
+use pf_model::{
+    Body, Entry, Grid, Theta, box_of, slow_group_cell, slow_group_cells, slow_list, slow_members,
+};
 use pf_num::OutOfMemory;
 use std::alloc::Global;
 
@@ -35,7 +38,7 @@ pub(crate) fn list_for(
     let there = found(built, i);
     let rank = slow_owner(alloc, built, grid, there.at)?;
     let own = particles_of(alloc, built, grid, rank)?;
-    let around = box_of_cell(alloc, &own, group_cell(&own, limit, there.at))?;
+    let around = box_of_cell(alloc, &own, slow_group_cell(&own, limit, there.at))?;
     kept_list(alloc, theta, around, built, now)
 }
 
@@ -53,7 +56,7 @@ pub(crate) fn lists_of(
         entries.items ≡ flat_map (group_list theta built.now) (groups_of_rank limit grid built.now rank)) }
 {
     let own = particles_of(alloc, built, grid, rank)?;
-    let cells = group_cells(alloc, &own, limit)?;
+    let cells = slow_group_cells(alloc, &own, limit)?;
     let mut entries = Vec::new(alloc);
     for cell in &cells {
         let around = box_of_cell(alloc, &own, *cell)?;
@@ -112,4 +115,11 @@ pub(crate) fn rank_count(grid: Grid) -> u32
     ensures division { IsDivision grid }
 {
     grid.nx * grid.ny * grid.nz
+}
+
+// The least box round the bodies in a cell, and of none the box of the origin alone.
+fn box_of_cell(alloc: Global, own: &[Body], cell: Cell) -> Result<Box3, OutOfMemory>
+    ensures { IfOk result (λ around. around ≡ box_of (particles_in cell own.now)) }
+{
+    Ok(box_of(&slow_members(alloc, own, cell)?))
 }

@@ -4,7 +4,7 @@ use Rattle.std.specs.List.{range_with_len}
 use Rattle.std.proofs.lemmas.List.FromFn.{map-range_with_len_more}
 use Rattle.pf_model.specs.Particle.{Particle}
 use Rattle.pf_model.specs.Domains.{cut_before}
-use Rattle.plain_run.specs.Axes.{along}
+use Rattle.pf_geom.specs.Position.{along}
 use Rattle.plain_run.proofs.cutting.cut_along.Goals as goal
 
 pub loop-slab-preserved : goal.loop-slab-preserved

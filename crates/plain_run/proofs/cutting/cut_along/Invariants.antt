@@ -1,7 +1,7 @@
 use Rattle.std.proofs.Common.{◌≡◌, ◌-◌, map}
 use Rattle.std.specs.List.{range_with_len}
 use Rattle.pf_model.specs.Domains.{cut_before}
-use Rattle.plain_run.specs.Axes.{along}
+use Rattle.pf_geom.specs.Position.{along}
 use Rattle.plain_run.proofs.cutting.cut_along.Given as goal
 
 abbrev pub invariant-loop-slab : goal.invariant-loop-slab

@@ -3,7 +3,7 @@ use Rattle.std.proofs.lemmas.Result.{IfOk-weaker}
 use Rattle.pf_geom.specs.declared.axis.Axis.TheVariants.{Y}
 use Rattle.pf_model.specs.Division.{Division}
 use Rattle.pf_model.specs.Domains.{cuts_of}
-use Rattle.plain_run.specs.Axes.{along}
+use Rattle.pf_geom.specs.Position.{along}
 use Rattle.plain_run.proofs.cutting.y_cuts.Goals as goal
 
 pub returns : goal.returns
