@@ -1,5 +1,4 @@
 pub mod RangeLemmas
-pub mod CutLemmas
 pub mod GroupingLemmas
 pub mod ListingLemmas
 pub mod ReachedLemmas

@@ -1,38 +1,20 @@
 -- What the core computes by plain scans, in the words of its code.
 use Rattle.std.specs.Prelude.{◌≡◌, ℕ, ◌^◌, ◌<◌, Bool, List, ◌∷◌, map, filter, length, nat_eq}
 use Rattle.std.specs.List.{range_with_len, flat_map, list_any}
-use Rattle.pf_geom.specs.Position.{Position}
 use Rattle.pf_geom.specs.Octant.{Octant}
-use Rattle.pf_geom.specs.declared.axis.Axis.{Axis}
-use Rattle.pf_geom.specs.declared.axis.Axis.TheVariants.{X, Y, Z}
 use Rattle.pf_model.specs.declared.entry.Entry.{Entry}
 use Rattle.pf_model.specs.Particle.{Particle}
 use Rattle.pf_model.specs.Criterion.{Criterion}
 use Rattle.pf_model.specs.Division.{Division}
-use Rattle.pf_model.specs.Domains.{Multisection, slab_of, cuts_of, cuts_for, owner_by}
+use Rattle.pf_model.specs.Domains.{Multisection, cuts_for, owner_by}
 use Rattle.pf_model.specs.Group.{particles_in, group_cells, box_of}
 use Rattle.pf_model.specs.Groups.{RankGroup}
 use Rattle.pf_model.specs.EssentialTree.{limited_list}
+use Rattle.multisection.specs.Regions.{Regions}
 use Rattle.step_core.specs.declared.site.Site.{Site}
 use Rattle.step_core.specs.declared.event.Event.{Event}
 use Rattle.step_core.specs.Laws.{IsLegalRun}
 use Rattle.step_core.specs.Core.{Settings, IsSettings, CoreState, numbered_groups, partial_lists}
-
--- the coordinate of a position along an axis
-abbrev pub along_axis : Axis → Position → ℕ
-along_axis X p = p.x
-along_axis Y p = p.y
-along_axis Z p = p.z
-
--- the particles in a slab between cuts along an axis
-abbrev pub in_slab_along : Axis → List ℕ → List Particle → ℕ → List Particle
-in_slab_along axis cuts js slab = filter (λ j. nat_eq (slab_of cuts (along_axis axis j.at)) slab) js
-
--- the cuts along z in the columns that the particles of a slab make
-abbrev pub plain_column_cuts : Division → List Particle → List ℕ
-plain_column_cuts g slab =
-    flat_map (λ iy. cuts_of (along_axis Z) (in_slab_along Y (cuts_of (along_axis Y) slab g.ny) slab iy) g.nz)
-    (range_with_len 0 g.ny)
 
 -- the particles that a rank owns, by cuts
 abbrev pub plain_owned : Multisection → List Particle → ℕ → List Particle
@@ -64,10 +46,10 @@ seen_by cuts js ranks = filter (is_seen cuts ranks) js
 abbrev pub list_at : Criterion → Division → List Particle → List ℕ → Site → List Entry
 list_at t g js arrivals site = limited_list t site.around g js (site.rank ∷ arrivals)
 
--- what each scene keeps: its cuts and what it has of groups are those of its settings
-pub record IsScene (s : Settings) (cut : Multisection) (listed : List Site) : Type 0 where
+-- what each scene keeps: its domains and what it has of groups are those of its settings
+pub record IsScene (s : Settings) (made : Regions) (listed : List Site) : Type 0 where
   pub settings : IsSettings s
-  pub cuts : cut ≡ cuts_for s.grid s.bodies
+  pub domains : made.cuts ≡ cuts_for s.grid s.bodies
   pub sites : listed ≡ map listed_site (numbered_groups s)
   pub few : length listed < 2 ^ 32
 

@@ -1,15 +1,10 @@
-ghost use Rattle.std.specs.Prelude.{◌≡◌, ◌++◌, IfOk, length, map};
-ghost use Rattle.pf_geom.specs.Octant.{cell_at};
-ghost use Rattle.pf_model.specs.Group.{particles_in, group_cell, group_cells, box_of};
-ghost use Rattle.pf_model.specs.Interaction.{is_cell};
+ghost use Rattle.std.specs.Prelude.{◌≡◌, ◌++◌, IfOk, map};
+ghost use Rattle.pf_model.specs.Group.{group_cells};
 ghost use Rattle.step_core.specs.Plain.{plain_owned, site_in, sites_by};
 
-use crate::cuts::Cuts;
-use crate::ordering::place_cell;
 use crate::site::Site;
-use model_laws::group_levels_are_least;
-use pf_geom::{Box3, Cell, DEEPEST, Point, cell_of};
-use pf_model::{Body, box_of};
+use multisection::{Domains, owner};
+use pf_model::{Body, box_of, slow_group_cells, slow_members};
 use pf_num::OutOfMemory;
 use std::alloc::Global;
 
@@ -17,15 +12,15 @@ use std::alloc::Global;
 pub(crate) fn sites_by(
     alloc: Global,
     bodies: &[Body],
-    cuts: &Cuts,
+    domains: &Domains,
     ranks: u32,
     limit: u32,
 ) -> Result<Vec<Site>, OutOfMemory>
-    ensures { IfOk result (λ sites. sites.items ≡ sites_by limit cuts.now bodies.now ranks) }
+    ensures { IfOk result (λ sites. sites.items ≡ sites_by limit domains.now.cuts bodies.now ranks) }
 {
     let mut sites = Vec::new(alloc);
     for rank in 0..ranks {
-        let own = owned_by(alloc, bodies, cuts, rank)?;
+        let own = owned_by(alloc, bodies, domains, rank)?;
         add_sites(alloc, &mut sites, &own, rank, limit)?;
     }
     Ok(sites)
@@ -35,18 +30,13 @@ pub(crate) fn sites_by(
 fn owned_by(
     alloc: Global,
     bodies: &[Body],
-    cuts: &Cuts,
+    domains: &Domains,
     rank: u32,
 ) -> Result<Vec<Body>, OutOfMemory>
-    ensures { IfOk result (λ own. own.items ≡ plain_owned cuts.now bodies.now rank) }
+    ensures { IfOk result (λ own. own.items ≡ plain_owned domains.now.cuts bodies.now rank) }
 {
-    Ok(
-        bodies
-            .iter()
-            .filter(|body| cuts.owner(body.at) == rank)
-            .copied()
-            .collect(alloc)?,
-    )
+    let own = bodies.iter().filter(|body| owner(domains, body.at) == rank);
+    Ok(own.copied().collect(alloc)?)
 }
 
 // Puts the groups of a rank behind those before.
@@ -60,80 +50,13 @@ fn add_sites(
     ensures { IfOk result (λ _. sites.new.items
         ≡ sites.old.items ++ map (site_in own.now rank) (group_cells limit own.now)) }
 {
-    let cells = group_cells(alloc, own, limit)?;
+    let cells = slow_group_cells(alloc, own, limit)?;
     for cell in &cells {
-        let members = members_in(alloc, own, *cell)?;
+        let members = slow_members(alloc, own, *cell)?;
         sites.push(Site {
             rank,
-            around: box_round(&members),
+            around: box_of(&members),
         })?;
     }
     Ok(())
-}
-
-// The cells of a rank's groups, in the order of their corners.
-fn group_cells(alloc: Global, own: &[Body], limit: u32) -> Result<Vec<Cell>, OutOfMemory>
-    ensures { IfOk result (λ cells. cells.items ≡ group_cells limit own.now) }
-{
-    let mut cells = Vec::new(alloc);
-    let mut left = own.len();
-    while left > 0 {
-        left -= 1;
-        let body = &own[left];
-        place_cell(&mut cells, group_cell(own, limit, body.at))?;
-    }
-    Ok(cells)
-}
-
-// The cell of the group of a point: each level is tried in turn, from the cube down.
-fn group_cell(own: &[Body], limit: u32, p: Point) -> Cell
-    ensures { result ≡ group_cell limit own.now p }
-{
-    group_levels_are_least();
-    for level in 0..DEEPEST {
-        let cell = cell_of(p, level);
-        if count_in(own, cell) <= limit as usize {
-            return cell;
-        }
-    }
-    cell_of(p, DEEPEST)
-}
-
-fn count_in(own: &[Body], cell: Cell) -> usize
-    ensures { result ≡ length (particles_in cell own.now) }
-{
-    own.iter().filter(|body| lies_in(body, cell)).count()
-}
-
-// The bodies in a cell.
-fn members_in(alloc: Global, own: &[Body], cell: Cell) -> Result<Vec<Body>, OutOfMemory>
-    ensures { IfOk result (λ members. members.items ≡ particles_in cell own.now) }
-{
-    Ok(
-        own.iter()
-            .filter(|body| lies_in(body, cell))
-            .copied()
-            .collect(alloc)?,
-    )
-}
-
-fn lies_in(body: &Body, cell: Cell) -> bool
-    ensures { result ≡ is_cell cell (cell_at body.now.at cell.level) }
-{
-    let at_level = cell_of(body.at, cell.level);
-    cell.level == at_level.level && cell.key == at_level.key
-}
-
-// The least box round bodies, and of none the box of the origin alone.
-fn box_round(bodies: &[Body]) -> Box3
-    ensures { result ≡ box_of bodies.now }
-{
-    if bodies.is_empty() {
-        let origin = Point { x: 0, y: 0, z: 0 };
-        return Box3 {
-            lo: origin,
-            hi: origin,
-        };
-    }
-    box_of(bodies)
 }

@@ -1,13 +1,10 @@
 // The pure core of a build: every legal list of events, by which essential trees reach their ranks and workers claim
-// and finish groups. It stands on pf_model, with the points of pf_geom and the want of memory of pf_num.
+// and finish groups. It stands on multisection and on the plain scans of pf_model.
 #![tactic(auto)]
 
-mod cuts;
-mod cutting;
 mod event;
 mod grouping;
 mod laws;
-mod ordering;
 mod progress;
 mod scene;
 mod sequence;
