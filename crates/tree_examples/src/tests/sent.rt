@@ -161,6 +161,25 @@ fn cells_are_as_large_as_the_gap_to_the_receiver(rt: HostRuntime) -> Result<(), 
 }
 
 #[test]
+fn the_order_of_particles_changes_no_essential_tree(rt: HostRuntime) -> Result<(), Fail> {
+    let alloc = rt.alloc();
+    let first = body(1, at(0, 0, 0), 1);
+    let second = body(2, at(1048576, 0, 0), 1);
+    let third = body(3, at(1048581, 0, 0), 3);
+    let by_id = three(first, second, third);
+    let turned = three(third, first, second);
+    let one = sent(&rt, alloc, &by_id, slabs(2), angle(1, 1), 1, 0)?;
+    let other = sent(&rt, alloc, &turned, slabs(2), angle(1, 1), 1, 0)?;
+    assert!(rt; one.items.len() == 2);
+    assert!(rt;
+        is_cell(&one.items[0], 28, (1 << 56) + 4, 1, 3, 3145743)
+            && is_cell(&one.items[1], 30, 1 << 62, 1, 1, 1048576)
+    );
+    assert_eq!(rt; other.items.as_slice(), one.items.as_slice());
+    Ok(())
+}
+
+#[test]
 fn at_angle_0_bodies_are_sent_as_themselves(rt: HostRuntime) -> Result<(), Fail> {
     let alloc = rt.alloc();
     let bodies = two(body(1, at(0, 0, 0), 1), body(2, at(3, 4, 0), 1));
