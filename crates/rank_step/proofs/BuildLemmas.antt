@@ -17,15 +17,12 @@ use Rattle.pf_model.specs.declared.entry.Entry.{Entry}
 use Rattle.pf_model.specs.Criterion.{Criterion}
 use Rattle.pf_model.specs.Division.{Division, IsDivision, rank_count}
 use Rattle.pf_model.specs.Domains.{owner, particles_of}
-use Rattle.model_laws.specs.DomainLaws.{AllRanksHaveAll, OwnersAreRanks}
 use Rattle.pf_model.specs.EssentialTree.{essential_tree}
 use Rattle.pf_model.specs.Group.{particles_in, group_cell, group_of, group_cells, box_of}
-use Rattle.model_laws.specs.GroupLaws.{GroupsIgnoreOrder, BoxesIgnoreOrder}
 use Rattle.pf_model.specs.Groups.{RankGroup, groups_of_rank, all_groups, group_list}
 use Rattle.pf_model.specs.Interaction.{is_cell, list_of}
 use Rattle.pf_model.specs.Particle.{Particle}
 use Rattle.pf_model.specs.Reuse.{as_in, kept_list}
-use Rattle.model_laws.specs.ReuseLaws.{KeptListsBeginAsLists}
 use Rattle.morton_tree.specs.declared.group.Group.{Group}
 use Rattle.morton_tree.specs.declared.span.Span.{Span}
 use Rattle.morton_tree.specs.Spans.{at_span, FollowOneAnother}
@@ -40,12 +37,10 @@ use Rattle.run_model.specs.Text as texts
 use Rattle.tree_phase.specs.declared.rank_lists.RankLists.{RankLists}
 use Rattle.tree_phase.specs.Counts.{all_entries}
 use Rattle.rank_step.specs.Build.{BuildsBy, AreListsOf}
-use Rattle.rank_step.specs.Ranks.{as_now}
+use Rattle.rank_step.specs.Laws.{BuildLaws}
 use Rattle.tree_phase.specs.Trees.{AreGroupsOf, received_by, HasGathered, HaveGathered, IsFinished}
 use Rattle.rank_step.specs.Trees.{AreFinished}
-use Rattle.rank_step.proofs.DealLemmas.{dealt_out}
-use Rattle.rank_step.proofs.NowLemmas.{all_now}
-use Rattle.rank_step.proofs.OrderLemmas.{ascend, distinct-ascending}
+use Rattle.rank_step.proofs.NowLemmas.{found}
 use Rattle.rank_step.proofs.TreeLemmas.{all_others}
 
 -- ---- the particles of the groups
@@ -71,18 +66,10 @@ bodies_are own groups lists follow bodies =
 
 -- ---- the boxes of the groups
 
--- the laws that these lemmas stand on
-pub record Laws : Type 0 where
-  pub groups : GroupsIgnoreOrder
-  pub boxes : BoxesIgnoreOrder
-  pub ranks : AllRanksHaveAll
-  pub owners : OwnersAreRanks
-  pub kept : KeptListsBeginAsLists
-
-box_of-same : Laws → (some own : List Particle) (c : Octant) → IsPermutation some own → box_of (particles_in c own) ≡ box_of (particles_in c some)
+box_of-same : BuildLaws → (some own : List Particle) (c : Octant) → IsPermutation some own → box_of (particles_in c own) ≡ box_of (particles_in c some)
 box_of-same laws some own c same = sym (laws.boxes (particles_in c some) (particles_in c own) ((laws.groups 0 some own same).2 c))
 
-pub group_box : Laws → (limit : ℕ) (some own : List Particle) (g : Group) (i : Particle) → IsPermutation some own → IsGroup limit own g → Contains (at_span g.span own) i → g.around ≡ box_of (group_of limit some i)
+pub group_box : BuildLaws → (limit : ℕ) (some own : List Particle) (g : Group) (i : Particle) → IsPermutation some own → IsGroup limit own g → Contains (at_span g.span own) i → g.around ≡ box_of (group_of limit some i)
 group_box laws limit some own g i same group member =
     group.around ∙ ap box_of (group.members i member) ∙ box_of-same laws some own (group_cell limit own i.at) same
     ∙ ap (λ (c : Octant). box_of (particles_in c some)) (sym ((laws.groups limit some own same).0 i.at))
@@ -104,7 +91,7 @@ no_group = record {
 }
 
 -- the lists round the boxes of the groups of some particles, joined
-pub lists_joined : Laws → (t : Criterion) (limit : ℕ) (js some own : List Particle) (groups : List Group) → AreGroupsOf limit some own groups → flat_map (λ g. list_of t g.around js) groups ≡ flat_map (λ c. list_of t (box_of (particles_in c some)) js) (group_cells limit some)
+pub lists_joined : BuildLaws → (t : Criterion) (limit : ℕ) (js some own : List Particle) (groups : List Group) → AreGroupsOf limit some own groups → flat_map (λ g. list_of t g.around js) groups ≡ flat_map (λ c. list_of t (box_of (particles_in c some)) js) (group_cells limit some)
 lists_joined laws t limit js some own groups grouped =
     let round : Octant → List Entry = λ c. list_of t (box_of (particles_in c own)) js in
     let theirs : Octant → List Entry = λ c. list_of t (box_of (particles_in c some)) js in
@@ -114,42 +101,20 @@ lists_joined laws t limit js some own groups grouped =
     ∙ ap (λ (f : Octant → List Entry). flat_map f (group_cells limit own)) same
     ∙ ap (flat_map theirs) (sym (laws.groups limit some own grouped.same).1)
 
--- ---- elements of a list that pass a test
-
-one_passes : {X : Type 0} (P : X → Type 0) (x : X) → P x → All P (x ∷ [])
-one_passes P x here zero d within = here
-one_passes P x here (suc k) d within = absurd (omega arith)
-
-passes : {X : Type 0} (test : X → Bool) (xs : List X) → All (λ x. test x ≡ true) (filter test xs)
-passes test [] = λ k d within. absurd (omega arith)
-passes {X} test (x ∷ xs) =
-    let P : X → Type 0 = λ y. test y ≡ true in
-    cond_both (test x) (x ∷ filter test xs) (filter test xs) (All P)
-    (λ yes. (let first : All P (x ∷ []) = λ k d within. one_passes P x yes k d within in All-append P (x ∷ []) (filter test xs) first (passes test xs)))
-    (λ no. passes test xs)
-
 -- ---- one rank
 
 -- the particles of a rank are particles that it owns
-pub owned_among : (g : Division) (js : List Particle) (rank : ℕ) (i : Particle) → Contains (particles_of g js rank) i → Contains js i × (owner g js i.at ≡ rank)
-owned_among g js rank i member =
-    let test = λ (j : Particle). nat_eq (owner g js j.at) rank in (
-      All-contains (Contains js) (particles_of g js rank) i (All-filter test (Contains js) js (All-contains_itself js)) member,
-      eqb-true (owner g js i.at) rank (All-contains (λ (j : Particle). test j ≡ true) (particles_of g js rank) i (passes test js) member),
-    )
+pub owned_among : BuildLaws → (g : Division) (js : List Particle) (rank : ℕ) (i : Particle) → Contains (particles_of g js rank) i → Contains js i × (owner g js i.at ≡ rank)
+owned_among laws g js rank i member =
+    let owns = (laws.passing (λ (j : Particle). nat_eq (owner g js j.at) rank) js i).0 member in
+    (owns.0, eqb-true (owner g js i.at) rank owns.1)
 
--- a particle of the build is what it was
-as_in-same : (js : List Particle) (i : Particle) → IsStrictlyIncreasing (map (λ p. p.id) js) → Contains js i → as_in js i ≡ i
-as_in-same js i up (k, within, is) =
-    let all = all_now js js (ascend js up) refl in
-    ap (as_now js) (sym is) ∙ sym (get_or-map (as_now js) js k i i within) ∙ ap (λ (l : List Particle). get_or l k i) all ∙ is
-
-list_for-owned : Laws → (u : Setup) (js : List Particle) (rank : ℕ) (i : Particle) → IsStrictlyIncreasing (map (λ p. p.id) js) → Contains (particles_of u.grid js rank) i → list_for u js js i ≡ list_of u.theta (box_of (group_of u.group (particles_of u.grid js rank) i)) js
+list_for-owned : BuildLaws → (u : Setup) (js : List Particle) (rank : ℕ) (i : Particle) → IsStrictlyIncreasing (map (λ p. p.id) js) → Contains (particles_of u.grid js rank) i → list_for u js js i ≡ list_of u.theta (box_of (group_of u.group (particles_of u.grid js rank) i)) js
 list_for-owned laws u js rank i up member =
-    let owned = owned_among u.grid js rank i member in
-    ap (λ (b : Particle). kept_list u.theta (box_of (group_of u.group (particles_of u.grid js (owner u.grid js b.at)) b)) js js) (as_in-same js i up owned.0)
+    let owned = owned_among laws u.grid js rank i member in
+    ap (λ (b : Particle). kept_list u.theta (box_of (group_of u.group (particles_of u.grid js (owner u.grid js b.at)) b)) js js) (found laws.now js up i i owned.0 refl)
     ∙ ap (λ (r : ℕ). kept_list u.theta (box_of (group_of u.group (particles_of u.grid js r) i)) js js) owned.1
-    ∙ laws.kept u.theta (box_of (group_of u.group (particles_of u.grid js rank) i)) js (distinct-ascending js (ascend js up))
+    ∙ laws.kept u.theta (box_of (group_of u.group (particles_of u.grid js rank) i)) js (laws.now.differ js ((laws.now.increase js).1 up))
 
 abbrev pub HaveLists : Setup → List Particle → List GroupList → Type 0
 HaveLists u js lists = All (λ l. All (λ i. l.entries ≡ list_for u js js i) l.bodies) lists
@@ -167,7 +132,7 @@ whole : (limit : ℕ) (g : Division) (js : List Particle) (rank : ℕ) (gather :
 whole limit g js rank gather has other below =
     subst (λ (l : List ℕ). Contains l other) (λ k. sym has.number k ∷ sym has.absorbed k) (all_others (rank_count g) rank other below)
 
-module _ (laws : Laws) (u : Setup) (js : List Particle) (rank : ℕ) (gather : Gathering) (division : IsDivision u.grid) (within : rank < rank_count u.grid) (has : HasGathered u.group u.grid js rank gather) where
+module _ (laws : BuildLaws) (u : Setup) (js : List Particle) (rank : ℕ) (gather : Gathering) (division : IsDivision u.grid) (within : rank < rank_count u.grid) (has : HasGathered u.group u.grid js rank gather) where
   own_particles : List Particle
   own_particles = particles_of u.grid js rank
 
@@ -301,7 +266,7 @@ each_few h most (x ∷ xs) few (suc k) d within = (let one = sum_by-cons h x xs 
 no_gather : Gathering
 no_gather = record { rank = 0; own = []; groups = []; absorbed = [] }
 
-module _ (laws : Laws) (u : Setup) (js : List Particle) (gathers : List Gathering) (division : IsDivision u.grid) (have : HaveGathered u.group u.grid js gathers) where
+module _ (laws : BuildLaws) (u : Setup) (js : List Particle) (gathers : List Gathering) (division : IsDivision u.grid) (have : HaveGathered u.group u.grid js gathers) where
   has_at : (k : ℕ) (d : Gathering) → k < length gathers → HasGathered u.group u.grid js k (get_or gathers k d)
   has_at k d within = have.each k d within
 
@@ -329,7 +294,7 @@ module _ (laws : Laws) (u : Setup) (js : List Particle) (gathers : List Gatherin
     pub all_lists : AreListsOf u js js (flat_map (λ r. r.lists.groups) finished)
     all_lists = record {
       all =
-          let dealt : IsPermutation js (flat_map (particles_of u.grid js) (range_with_len 0 (rank_count u.grid))) = dealt_out (λ (j : Particle). owner u.grid js j.at) (rank_count u.grid) (λ j. laws.owners u.grid js j.at division) js in
+          let dealt : IsPermutation js (flat_map (particles_of u.grid js) (range_with_len 0 (rank_count u.grid))) = laws.in_turn u.grid js division in
           let own = permuted_by_rank (particles_of u.grid js) (λ (r : RankLists). flat_map (λ (l : GroupList). l.bodies) r.lists.groups) 0 finished
           (λ k d within. subst (λ (n : ℕ). IsPermutation (particles_of u.grid js n) (flat_map (λ (l : GroupList). l.bodies) (get_or finished k d).lists.groups)) (omega arith)
           (own_bodies laws u js k (get_or gathers k no_gather) division (in_grid k (inside k within)) (has_at k no_gather (inside k within)) (get_or finished k d) (finished_at k d within))) in
@@ -366,7 +331,7 @@ pub record AreReady (limit : ℕ) (g : Division) (js : List Particle) (gathers :
   pub up : IsStrictlyIncreasing (map (λ p. p.id) js)
   pub all : HaveGathered limit g js gathers
 
-module _ (laws : Laws) (g : Division) (t : Criterion) (limit : ℕ) (js : List Particle) (gathers : List Gathering) (ready : AreReady limit g js gathers) (u : Setup) (by : BuildsBy g t limit u) where
+module _ (laws : BuildLaws) (g : Division) (t : Criterion) (limit : ℕ) (js : List Particle) (gathers : List Gathering) (ready : AreReady limit g js gathers) (u : Setup) (by : BuildsBy g t limit u) where
   ready_for : HaveGathered u.group u.grid js gathers
   ready_for = subst (λ (h : Division). HaveGathered u.group h js gathers) (sym by.grid) (subst (λ (n : ℕ). HaveGathered n g js gathers) (sym by.group) ready.all)
 

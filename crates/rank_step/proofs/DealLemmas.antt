@@ -1,62 +1,19 @@
--- Elements that are dealt out to numbers, and particles that are dealt out to ranks.
-use Rattle.std.proofs.Common.{◌≡◌, ℕ, zero, suc, ◌+◌, ◌%◌, ◌<◌, ◌≤◌, Bool, true, false, cond, List, [], ◌∷◌, ◌++◌, length, get_or, take, map, nat_eq, inl, inr, refl, sym, ◌∙◌, ap, subst, arith}
-use Rattle.std.specs.List.{All, enumerate_from, filter, flat_map, range_with_len}
+-- Particles that are dealt out to ranks by their places.
+use Rattle.std.proofs.Common.{◌≡◌, ℕ, ◌+◌, ◌%◌, ◌<◌, ◌≤◌, Bool, true, false, cond, List, [], ◌∷◌, ◌++◌, length, get_or, take, map, nat_eq, refl, sym, ◌∙◌, ap, subst, arith}
+use Rattle.std.specs.List.{AllPairs, enumerate_from, filter, flat_map, range_with_len}
 use Rattle.std.specs.List.Sorted.{IsPermutation, IsStrictlyIncreasing}
-use Rattle.std.proofs.lemmas.Bool.{cases_eq, cond-true, cond-false, cond_both, eq-eqb, ne_eqb}
-use Rattle.std.proofs.lemmas.List.{append-nil, map-append, take_all}
+use Rattle.std.proofs.lemmas.Bool.{cond-true, cond-false, eq-eqb, ne_eqb}
+use Rattle.std.proofs.lemmas.List.{append-nil, get_or-map, length-map, map-append, take_all}
 use Rattle.std.proofs.lemmas.List.Elements.{filter_more}
 use Rattle.std.proofs.lemmas.List.FromFn.{get_or-enumerate_from, length-enumerate_from}
-use Rattle.std.proofs.lemmas.List.Kept.{AllPairs-cons}
-use Rattle.std.proofs.lemmas.List.Sorted.{IsPermutation-refl, IsPermutation-cons, IsPermutation-sym, IsPermutation-trans, IsPermutation-map, IsPermutation-middle, IsPermutation-append_right}
+use Rattle.std.proofs.lemmas.List.Kept.{AllPairs-filter}
+use Rattle.std.proofs.lemmas.List.Sorted.{IsPermutation-map}
 use Rattle.pf_model.specs.Division.{Division, IsDivision, rank_count}
 use Rattle.pf_model.specs.Particle.{Particle}
 use Rattle.exchange.specs.States.{Holding, AreInIdOrder}
 use Rattle.exchange.specs.ExchangeLaws.{particles_held}
+use Rattle.rank_step.specs.Laws.{DealLaws}
 use Rattle.rank_step.specs.Ranks.{HaveTogether, dealt_to, first_ranks}
-use Rattle.rank_step.proofs.OrderLemmas.{AreAbove, Ascend, ascend}
-
--- each element goes to the number that its key is
-module _ {E : Type 0} (key : E → ℕ) where
-  abbrev pub part : List E → ℕ → List E
-  part xs n = filter (λ x. nat_eq (key x) n) xs
-
-  part_before : (x : E) (xs : List E) (start len : ℕ) → key x < start → flat_map (part (x ∷ xs)) (range_with_len start len) ≡ flat_map (part xs) (range_with_len start len)
-  part_before x xs start zero less = refl
-  part_before x xs start (suc len) less =
-      let here : part (x ∷ xs) start ≡ part xs start = cond-false (nat_eq (key x) start) (x ∷ part xs start) (part xs start) (ne_eqb (key x) start (λ e. omega arith)) in
-      (λ i. here i ++ part_before x xs (start + 1) len (omega arith) i)
-
-  part_once : (x : E) (xs : List E) (start len : ℕ) → start ≤ key x → key x < start + len →
-      IsPermutation (x ∷ flat_map (part xs) (range_with_len start len)) (flat_map (part (x ∷ xs)) (range_with_len start len))
-  part_once x xs start zero from within = absurd (omega arith)
-  part_once x xs start (suc len) from within =
-      let rest : List E = flat_map (part xs) (range_with_len (start + 1) len) in
-      let others : List E = flat_map (part (x ∷ xs)) (range_with_len (start + 1) len) in
-      elim (cases_eq (key x) start) [
-        | inl same ↦
-            let here : x ∷ part xs start ≡ part (x ∷ xs) start = sym (cond-true (nat_eq (key x) start) (x ∷ part xs start) (part xs start) (eq-eqb (key x) start same)) in
-            let after : rest ≡ others = sym (part_before x xs (start + 1) len (omega arith)) in
-            subst (IsPermutation (x ∷ (part xs start ++ rest))) (λ i. here i ++ after i) (IsPermutation-refl (x ∷ (part xs start ++ rest)))
-        | inr other ↦
-            let here : part xs start ≡ part (x ∷ xs) start = sym (cond-false (nat_eq (key x) start) (x ∷ part xs start) (part xs start) (ne_eqb (key x) start other)) in
-            let later = part_once x xs (start + 1) len (omega arith) (omega arith) in
-            subst (λ (l : List E). IsPermutation (x ∷ (part xs start ++ rest)) (l ++ others)) here
-            (IsPermutation-trans (x ∷ (part xs start ++ rest)) (part xs start ++ x ∷ rest) (part xs start ++ others)
-            (IsPermutation-sym (part xs start ++ x ∷ rest) (x ∷ (part xs start ++ rest)) (IsPermutation-middle (part xs start) x rest))
-            (IsPermutation-append_right (part xs start) (x ∷ rest) others later))
-      ]
-
-  part_of_none : (start len : ℕ) → flat_map (part []) (range_with_len start len) ≡ []
-  part_of_none start zero = refl
-  part_of_none start (suc len) = part_of_none (start + 1) len
-
-  -- so each stands with one number, once
-  pub dealt_out : (count : ℕ) → ((x : E) → key x < count) → (xs : List E) → IsPermutation xs (flat_map (part xs) (range_with_len 0 count))
-  dealt_out count below [] = subst (IsPermutation []) (sym (part_of_none 0 count)) (IsPermutation-refl [])
-  dealt_out count below (x ∷ xs) =
-      IsPermutation-trans (x ∷ xs) (x ∷ flat_map (part xs) (range_with_len 0 count)) (flat_map (part (x ∷ xs)) (range_with_len 0 count))
-      (IsPermutation-cons x xs (flat_map (part xs) (range_with_len 0 count)) (dealt_out count below xs))
-      (part_once x xs 0 count (omega arith) (let less = below x in omega arith))
 
 -- ---- what ranks have by number
 
@@ -71,7 +28,7 @@ held_by : (f : ℕ → List Particle) (ns : List ℕ) → particles_held (map (r
 held_by f [] = refl
 held_by f (n ∷ ns) = ap (λ rest. f n ++ rest) (held_by f ns)
 
-pub have_together : (g : Division) (js : List Particle) (f : ℕ → List Particle) → IsPermutation js (flat_map f (range_with_len 0 (rank_count g))) → HaveTogether g js (map (rank_with f) (range_with_len 0 (rank_count g)))
+have_together : (g : Division) (js : List Particle) (f : ℕ → List Particle) → IsPermutation js (flat_map f (range_with_len 0 (rank_count g))) → HaveTogether g js (map (rank_with f) (range_with_len 0 (rank_count g)))
 have_together g js f all = record {
   by_number = numbers_of f (range_with_len 0 (rank_count g));
   all = subst (IsPermutation js) (sym (held_by f (range_with_len 0 (rank_count g)))) all;
@@ -82,6 +39,9 @@ have_together g js f all = record {
 remainder : ℕ → ℕ × Particle → ℕ
 remainder count n = n.0 % count
 
+dealt : ℕ → List Particle → ℕ → List (ℕ × Particle)
+dealt count js rank = filter (λ n. nat_eq (remainder count n) rank) (enumerate_from 0 js)
+
 numbered : (start : ℕ) (js : List Particle) → map (λ (n : ℕ × Particle). n.1) (enumerate_from start js) ≡ js
 numbered start [] = refl
 numbered start (j ∷ js) = ap (λ rest. j ∷ rest) (numbered (start + 1) js)
@@ -90,16 +50,16 @@ map_each : {X Y : Type 0} (f : X → Y) (g : ℕ → List X) (ns : List ℕ) →
 map_each f g [] = refl
 map_each f g (n ∷ ns) = map-append f (g n) (flat_map g ns) ∙ ap (λ rest. map f (g n) ++ rest) (map_each f g ns)
 
-pub first_together : (g : Division) (js : List Particle) → 1 ≤ rank_count g → HaveTogether g js (first_ranks g js)
-unfolding remainder
-first_together g js some =
+pub first_together : DealLaws → (g : Division) (js : List Particle) → 1 ≤ rank_count g → HaveTogether g js (first_ranks g js)
+unfolding remainder dealt
+first_together laws g js some =
     let second = λ (n : ℕ × Particle). n.1 in
     let ranks : List ℕ = range_with_len 0 (rank_count g) in
-    let all = dealt_out (remainder (rank_count g)) (rank_count g) (λ n. omega arith) (enumerate_from 0 js) in
-    let parts : List (ℕ × Particle) = flat_map (part (remainder (rank_count g)) (enumerate_from 0 js)) ranks in
+    let all = laws.parts (remainder (rank_count g)) (rank_count g) (enumerate_from 0 js) (λ n. omega arith) in
+    let parts : List (ℕ × Particle) = flat_map (dealt (rank_count g) js) ranks in
     have_together g js (dealt_to (rank_count g) js)
     (subst (λ (l : List Particle). IsPermutation l (flat_map (dealt_to (rank_count g) js) ranks)) (numbered 0 js)
-    (subst (IsPermutation (map second (enumerate_from 0 js))) (map_each second (part (remainder (rank_count g)) (enumerate_from 0 js)) ranks)
+    (subst (IsPermutation (map second (enumerate_from 0 js))) (map_each second (dealt (rank_count g) js) ranks)
     (IsPermutation-map second (enumerate_from 0 js) parts all)))
 
 pub some_ranks : (g : Division) → IsDivision g → 1 ≤ rank_count g
@@ -139,41 +99,27 @@ dealt_all count rest js i past =
     let long = length-enumerate_from 0 js in
     ap (λ (l : List (ℕ × Particle)). map (λ n. n.1) (filter (λ n. nat_eq (n.0 % count) rest) l)) (take_all i (enumerate_from 0 js) (omega arith))
 
--- ---- what is taken of ascending particles ascends
+-- ---- what is dealt out of ascending particles ascends
 
-pub above_all : (n : ℕ) (ps : List Particle) → AreAbove n ps → All (λ q. n < q.id) ps
-above_all n [] h k d within = absurd (omega arith)
-above_all n (q ∷ qs) h zero d within = h.0
-above_all n (q ∷ qs) h (suc k) d within = above_all n qs h.1 k d (omega arith)
+abbrev AreAscending : List (ℕ × Particle) → Type 0
+AreAscending ns = AllPairs (λ m n. m.1.id < n.1.id) ns
 
-pub id_order : (ps : List Particle) → Ascend ps → AreInIdOrder ps
-id_order [] h = λ i j d below within. absurd (omega arith)
-id_order (p ∷ ps) h = AllPairs-cons (λ (i j : Particle). i.id < j.id) p ps (above_all p.id ps h.0) (id_order ps h.1)
+numbered_ascend : (js : List Particle) → AreInIdOrder js → AreAscending (enumerate_from 0 js)
+numbered_ascend js up i j d less within =
+    let long = length-enumerate_from 0 js in
+    let rise = up i j d.1 less (omega arith) in
+    let here = ap (λ (n : ℕ × Particle). n.1.id) (get_or-enumerate_from 0 js i d (omega arith)) in
+    let there = ap (λ (n : ℕ × Particle). n.1.id) (get_or-enumerate_from 0 js j d (omega arith)) in
+    omega (arith, rise, here, there)
 
-module _ (test : Particle → Bool) where
-  above_kept : (n : ℕ) (ps : List Particle) → AreAbove n ps → AreAbove n (filter test ps)
-  above_kept n [] h = tt
-  above_kept n (q ∷ qs) h = cond_both (test q) (q ∷ filter test qs) (filter test qs) (AreAbove n) (λ _. (h.0, above_kept n qs h.1)) (λ _. above_kept n qs h.1)
-
-  pub kept_ascend : (ps : List Particle) → Ascend ps → Ascend (filter test ps)
-  kept_ascend [] h = tt
-  kept_ascend (p ∷ ps) h = cond_both (test p) (p ∷ filter test ps) (filter test ps) Ascend (λ _. (above_kept p.id ps h.0, kept_ascend ps h.1)) (λ _. kept_ascend ps h.1)
-
-module _ (test : ℕ × Particle → Bool) where
-  abbrev picked : ℕ → List Particle → List Particle
-  picked start js = map (λ n. n.1) (filter test (enumerate_from start js))
-
-  above_picked : (n start : ℕ) (ps : List Particle) → AreAbove n ps → AreAbove n (picked start ps)
-  above_picked n start [] h = tt
-  above_picked n start (q ∷ qs) h =
-      cond_both (test (start, q)) ((start, q) ∷ filter test (enumerate_from (start + 1) qs)) (filter test (enumerate_from (start + 1) qs)) (λ l. AreAbove n (map (λ (m : ℕ × Particle). m.1) l))
-      (λ _. (h.0, above_picked n (start + 1) qs h.1)) (λ _. above_picked n (start + 1) qs h.1)
-
-  picked_ascend : (start : ℕ) (ps : List Particle) → Ascend ps → Ascend (picked start ps)
-  picked_ascend start [] h = tt
-  picked_ascend start (p ∷ ps) h =
-      cond_both (test (start, p)) ((start, p) ∷ filter test (enumerate_from (start + 1) ps)) (filter test (enumerate_from (start + 1) ps)) (λ l. Ascend (map (λ (m : ℕ × Particle). m.1) l))
-      (λ _. (above_picked p.id (start + 1) ps h.0, picked_ascend (start + 1) ps h.1)) (λ _. picked_ascend (start + 1) ps h.1)
-
-pub dealt_in_order : (count rank : ℕ) (js : List Particle) → IsStrictlyIncreasing (map (λ p. p.id) js) → AreInIdOrder (dealt_to count js rank)
-dealt_in_order count rank js h = id_order (dealt_to count js rank) (picked_ascend (λ n. nat_eq (n.0 % count) rank) 0 js (ascend js h))
+pub dealt_in_order : DealLaws → (count rank : ℕ) (js : List Particle) → IsStrictlyIncreasing (map (λ p. p.id) js) → AreInIdOrder (dealt_to count js rank)
+dealt_in_order laws count rank js up i j d less within =
+    let test = λ (n : ℕ × Particle). nat_eq (n.0 % count) rank in
+    let second = λ (n : ℕ × Particle). n.1 in
+    let ns : List (ℕ × Particle) = filter test (enumerate_from 0 js) in
+    let kept = AllPairs-filter (λ (m n : ℕ × Particle). m.1.id < n.1.id) test (enumerate_from 0 js) (numbered_ascend js ((laws.increase js).1 up)) in
+    let long = length-map ns second in
+    let rise = kept i j (0, d) less (omega arith) in
+    let here = ap (λ (p : Particle). p.id) (get_or-map second ns i (0, d) d (omega arith)) in
+    let there = ap (λ (p : Particle). p.id) (get_or-map second ns j (0, d) d (omega arith)) in
+    omega (arith, rise, here, there)

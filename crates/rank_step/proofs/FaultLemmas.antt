@@ -1,12 +1,12 @@
 -- The first fault by id, and the least of all faults.
-use Rattle.std.proofs.Common.{◌≡◌, ℕ, ◌<◌, ◌≤◌, zero, suc, List, [], ◌∷◌, Option, Some, None, ◌⊎◌, inl, inr, refl, ◌∙◌, ap, arith}
+use Rattle.std.proofs.Common.{◌≡◌, ◌<◌, ◌≤◌, zero, suc, List, [], ◌∷◌, Option, Some, None, ◌⊎◌, inl, inr, refl, ◌∙◌, ap, arith}
 use Rattle.std.specs.Prelude.{option_map}
 use Rattle.std.specs.List.{Contains, filter_map, cons_option}
 use Rattle.order_laws.specs.Order.{first_some}
 use Rattle.pf_model.specs.Particle.{Particle}
+use Rattle.pf_model.specs.Particles.{AreInIdOrder}
 use Rattle.run_model.specs.declared.fault.Fault.{Fault}
 use Rattle.run_model.specs.Force.{first_given}
-use Rattle.rank_step.proofs.OrderLemmas.{AreAbove, Ascend}
 
 -- ---- elements
 
@@ -62,24 +62,25 @@ none_given f (x ∷ xs) not =
 
 -- ---- the least by id
 
-above_each : (n : ℕ) (ps : List Particle) (q : Particle) → AreAbove n ps → Contains ps q → n < q.id
-above_each n [] q h (k, within, e) = absurd (omega arith)
-above_each n (p ∷ ps) q h c =
-    elim (contains_cases p ps q c) [
-      | inl e ↦ let same = ap (λ (r : Particle). r.id) e in let less = h.0 in omega (arith, same, less)
-      | inr i ↦ above_each n ps q h.1 i
-    ]
+first_below : (p : Particle) (ps : List Particle) (q : Particle) → AreInIdOrder (p ∷ ps) → Contains ps q → p.id < q.id
+first_below p ps q up (k, within, e) =
+    let less = up 0 (suc k) q (omega arith) (omega arith) in
+    let same = ap (λ (r : Particle). r.id) e in
+    omega (arith, less, same)
+
+rest_ascends : (p : Particle) (ps : List Particle) → AreInIdOrder (p ∷ ps) → AreInIdOrder ps
+rest_ascends p ps up i j d less within = up (suc i) (suc j) d (omega arith) (omega arith)
 
 module _ (f : Particle → Option Fault) (named : (p : Particle) (y : Fault) → f p ≡ Some y → y.id ≡ p.id) where
   from_rest : (p : Particle) (ps : List Particle) (x : Particle) (y : Fault) → f p ≡ None → f x ≡ Some y → Contains (p ∷ ps) x → Contains ps x
   from_rest p ps x y none is c = elim (contains_cases p ps x c) [ inl e ↦ (let same = ap f e in cc) | inr i ↦ i ]
 
-  least_first : (p : Particle) (ps : List Particle) (x : Particle) (y z : Fault) → AreAbove p.id ps → Contains (p ∷ ps) x → f x ≡ Some y → f p ≡ Some z → y.id ≤ z.id → z ≡ y
-  least_first p ps x y z above c is here least =
+  least_first : (p : Particle) (ps : List Particle) (x : Particle) (y z : Fault) → AreInIdOrder (p ∷ ps) → Contains (p ∷ ps) x → f x ≡ Some y → f p ≡ Some z → y.id ≤ z.id → z ≡ y
+  least_first p ps x y z up c is here least =
       elim (contains_cases p ps x c) [
         | inl e ↦ (let same = ap f e in cc)
         | inr i ↦
-            let more = above_each p.id ps x above i in
+            let more = first_below p ps x up i in
             let of_x = named x y is in
             let of_p = named p z here in
             absurd (omega arith)
@@ -90,12 +91,12 @@ module _ (f : Particle → Option Fault) (named : (p : Particle) (y : Fault) →
   first_from p ps y (Some z) e rest here = ap Some (here z refl)
 
   -- in the order of their ids, the first that has a fault has the least
-  pub least_given : (ps : List Particle) (x : Particle) (y : Fault) → Ascend ps → Contains ps x → f x ≡ Some y → ((q : Particle) (z : Fault) → Contains ps q → f q ≡ Some z → y.id ≤ z.id) → first_given f ps ≡ Some y
+  pub least_given : (ps : List Particle) (x : Particle) (y : Fault) → AreInIdOrder ps → Contains ps x → f x ≡ Some y → ((q : Particle) (z : Fault) → Contains ps q → f q ≡ Some z → y.id ≤ z.id) → first_given f ps ≡ Some y
   least_given [] x y h (k, within, e) is least = absurd (omega arith)
   least_given (p ∷ ps) x y h c is least =
       first_from p ps y (f p) refl
-      (λ none. least_given ps x y h.1 (from_rest p ps x y none is c) is (λ q z i e. least q z (contains_later p ps q i) e))
-      (λ z here. least_first p ps x y z h.0 c is here (least p z (contains_first p ps p refl) here))
+      (λ none. least_given ps x y (rest_ascends p ps h) (from_rest p ps x y none is c) is (λ q z i e. least q z (contains_later p ps q i) e))
+      (λ z here. least_first p ps x y z h c is here (least p z (contains_first p ps p refl) here))
 
 -- ---- as stops
 

@@ -2,15 +2,16 @@
 use Rattle.std.proofs.Common.{◌≡◌, ◌≤◌, ℤ, List, [], ◌∷◌, get_or, map, Option, Some, None, refl, sym, ◌∙◌, ap, subst, arith}
 use Rattle.std.specs.Prelude.{option_map, nat_lt}
 use Rattle.std.specs.List.{All, Contains, filter_map, zip}
+use Rattle.std.specs.List.Sorted.{IsStrictlyIncreasing}
 use Rattle.std.proofs.lemmas.List.{map-append}
 use Rattle.std.proofs.lemmas.List.Elements.{All-head, All-tail, All-contains, filter_map-append}
 use Rattle.std.proofs.lemmas.List.Sorted.{Contains-permutation, IsPermutation-sym}
 use Rattle.kern_tree.specs.declared.kernel.Kernel.{Kernel}
 use Rattle.pf_geom.specs.declared.edge.Edge.{Edge}
 use Rattle.pf_model.specs.declared.entry.Entry.{Entry}
-use Rattle.model_laws.specs.IdLaws.{OrdersByIdAreOne}
 use Rattle.order_laws.specs.Order.{in_order_once}
 use Rattle.pf_model.specs.Particle.{Particle}
+use Rattle.pf_model.specs.Particles.{AreInIdOrder}
 use Rattle.group_lists.specs.Whole.{GroupList}
 use Rattle.force_phase.specs.declared.phase.IdRow.{IdRow}
 use Rattle.run_model.specs.declared.fault.PhaseFault.{PhaseFault}
@@ -23,8 +24,8 @@ use Rattle.run_model.specs.Setup.{Setup}
 use Rattle.run_model.specs.Run.{WithForces, Numeric, numeric, list_for, with_forces, forces_fault}
 use Rattle.rank_step.specs.Build.{AreListsOf}
 use Rattle.run_model.specs.Answers.{StopsAt, of_phase}
+use Rattle.rank_step.specs.Laws.{RowLaws}
 use Rattle.rank_step.specs.Taken.{TakesFrom, with_row}
-use Rattle.rank_step.proofs.OrderLemmas.{Ascend, by_id-ascending, distinct-ascending, in_order-map}
 use Rattle.rank_step.proofs.FaultLemmas.{given_from, given_in, none_given, least_given, first_given-option_map}
 
 -- ---- two functions that agree on the elements
@@ -116,13 +117,13 @@ zip_rows : (f : Particle → IdRow) (ps : List Particle) → map with_row (zip p
 zip_rows f [] = refl
 zip_rows f (p ∷ ps) = ap (λ (rest : List WithForces). record { body = p; forces = (f p).row } ∷ rest) (zip_rows f ps)
 
-module _ (one : OrdersByIdAreOne) (u : Setup) (built now : List Particle) (lists : List GroupList) (are : AreListsOf u built now lists) (ascending : Ascend now) where
+module _ (laws : RowLaws) (u : Setup) (built now : List Particle) (lists : List GroupList) (are : AreListsOf u built now lists) (ascending : AreInIdOrder now) where
   pub rows_in_order : rows_by_id u.theta.edge u.kernel lists ≡ map (numbered u built now) now
   unfolding numbered
   rows_in_order =
       ap (in_order_once (λ (r s : IdRow). nat_lt r.id s.id)) (rows_are u built now lists are.each)
-      ∙ in_order-map (numbered u built now) (λ (r s : IdRow). nat_lt r.id s.id) (λ p q. refl) (bodies_in lists)
-      ∙ ap (map (numbered u built now)) (sym (one now (bodies_in lists) (distinct-ascending now ascending) are.all) ∙ by_id-ascending now ascending)
+      ∙ laws.maps (numbered u built now) (λ p q. nat_lt p.id q.id) (λ r s. nat_lt r.id s.id) (bodies_in lists) (λ p q. refl)
+      ∙ ap (map (numbered u built now)) (laws.by_id (bodies_in lists) now (IsPermutation-sym now (bodies_in lists) are.all) ascending)
 
   pub forces_are : (rows : List IdRow) → rows ≡ rows_by_id u.theta.edge u.kernel lists → map with_row (zip now rows) ≡ with_forces u built now
   unfolding numbered row_of
@@ -150,10 +151,13 @@ module _ (one : OrdersByIdAreOne) (u : Setup) (built now : List Particle) (lists
 
 -- ---- as the phase answers
 
-module _ (one : OrdersByIdAreOne) (u : Setup) (k : Kernel) (e : Edge) (built now : List Particle) (lists : List GroupList) (takes : TakesFrom k e built now lists u) (ascending : Ascend now) where
+module _ (laws : RowLaws) (u : Setup) (k : Kernel) (e : Edge) (built now : List Particle) (lists : List GroupList) (takes : TakesFrom k e built now lists u) (up : IsStrictlyIncreasing (map (λ p. p.id) now)) where
+  ascending : AreInIdOrder now
+  ascending = (laws.increase now).1 up
+
   pub TakesFrom_forces : (rows : List IdRow) → rows ≡ rows_by_id e k lists → map with_row (zip now rows) ≡ with_forces u built now
   TakesFrom_forces rows is =
-      forces_are one u built now lists takes.lists ascending rows
+      forces_are laws u built now lists takes.lists ascending rows
       (is ∙ ap (λ (edge : Edge). rows_by_id edge k lists) (sym takes.edge) ∙ ap (λ (kernel : Kernel). rows_by_id u.theta.edge kernel lists) (sym takes.kernel))
 
   same_faults : faults_in e k lists ≡ faults_in u.theta.edge u.kernel lists
@@ -161,10 +165,10 @@ module _ (one : OrdersByIdAreOne) (u : Setup) (k : Kernel) (e : Edge) (built now
       ap (λ (edge : Edge). faults_in edge k lists) (sym takes.edge) ∙ ap (λ (kernel : Kernel). faults_in u.theta.edge kernel lists) (sym takes.kernel)
 
   pub TakesFrom_no_fault : faults_in e k lists ≡ [] → first_given (forces_fault u built now) now ≡ None
-  TakesFrom_no_fault none = no_fault_is one u built now lists takes.lists ascending (sym same_faults ∙ none)
+  TakesFrom_no_fault none = no_fault_is laws u built now lists takes.lists ascending (sym same_faults ∙ none)
 
   pub TakesFrom_fault : (fault : PhaseFault) → StopsPhase e k lists fault → StopsAt (first_given (forces_fault u built now) now) (of_phase fault)
   TakesFrom_fault (phase.Numeric fault) stops =
       let least = subst (λ (ys : List Fault). Contains ys fault × All (λ other. fault.id ≤ other.id) ys) same_faults stops in
-      least_is one u built now lists takes.lists ascending fault least.0 least.1
+      least_is laws u built now lists takes.lists ascending fault least.0 least.1
   TakesFrom_fault phase.Memory stops = tt

@@ -2,23 +2,26 @@
 use Rattle.std.proofs.Common.{◌≡◌, ℕ, List, length, get_or, map, nat_eq, ◌∙◌, ap, arith}
 use Rattle.std.specs.List.Sorted.{IsStrictlyIncreasing}
 use Rattle.std.proofs.lemmas.List.FromFn.{get_or-map-range_with_len, length-map-range_with_len}
+use Rattle.std.proofs.lemmas.List.Sorted.{IsPermutation-refl}
 use Rattle.pf_model.specs.Division.{Division, rank_count}
 use Rattle.pf_model.specs.Domains.{owner, particles_of}
 use Rattle.pf_model.specs.Particle.{Particle}
 use Rattle.pf_model.specs.Particles.{by_id}
 use Rattle.exchange.specs.States.{Holding}
 use Rattle.tree_phase.specs.Trees.{HaveOwn}
+use Rattle.rank_step.specs.Laws.{OwnLaws}
 use Rattle.rank_step.specs.Ranks.{with_owners}
-use Rattle.rank_step.proofs.DealLemmas.{rank_with, kept_ascend}
-use Rattle.rank_step.proofs.OrderLemmas.{ascend, by_id-ascending}
+use Rattle.rank_step.proofs.DealLemmas.{rank_with}
 
-module _ (g : Division) (js : List Particle) (up : IsStrictlyIncreasing (map (λ p. p.id) js)) where
+module _ (laws : OwnLaws) (g : Division) (js : List Particle) (up : IsStrictlyIncreasing (map (λ p. p.id) js)) where
   owned : ℕ → List Particle
   owned rank = by_id (particles_of g js rank)
 
   owned_is : (rank : ℕ) → owned rank ≡ particles_of g js rank
   unfolding owned
-  owned_is rank = by_id-ascending (particles_of g js rank) (kept_ascend (λ j. nat_eq (owner g js j.at) rank) js (ascend js up))
+  owned_is rank =
+      let own = particles_of g js rank in
+      laws.by_id own own (IsPermutation-refl own) (laws.some (λ j. nat_eq (owner g js j.at) rank) js ((laws.increase js).1 up))
 
   pub have_own : (ranks : List Holding) → ranks ≡ with_owners g js → HaveOwn g js ranks
   unfolding owned

@@ -39,12 +39,11 @@ use Rattle.tree_phase.specs.declared.rank_tree.RankTree.{RankTree}
 use Rattle.refresh_phase.specs.Laws.{AreAsBuilt, KeptGroupsHaveTheirLists, HasPresentGroups}
 use Rattle.rank_step.specs.Build.{AreListsOf, BuildsBy}
 use Rattle.rank_step.specs.LastBuild.{AreKeptSince}
+use Rattle.rank_step.specs.Laws.{BuildLaws}
 use Rattle.rank_step.specs.declared.keeping.RankBuilt.{RankBuilt}
 use Rattle.rank_step.specs.Trees.{rank_built}
-use Rattle.rank_step.proofs.BuildLemmas.{Laws, all_joined, bodies_are, group_box, joined_bodies, lists_joined, map_by_rank, member_among, no_group, owned_among, permuted_by_rank, skip_own}
-use Rattle.rank_step.proofs.DealLemmas.{dealt_out, id_order}
-use Rattle.rank_step.proofs.NowLemmas.{all_now, finds, same_id}
-use Rattle.rank_step.proofs.OrderLemmas.{ascend}
+use Rattle.rank_step.proofs.BuildLemmas.{all_joined, bodies_are, group_box, joined_bodies, lists_joined, map_by_rank, member_among, no_group, owned_among, permuted_by_rank, skip_own}
+use Rattle.rank_step.proofs.NowLemmas.{all_now, found, id_now}
 
 map_flat_map : {X Y : Type 0} (f : X → Y) (g : ℕ → List X) (ns : List ℕ) → flat_map (λ n. map f (g n)) ns ≡ map f (flat_map g ns)
 map_flat_map f g [] = refl
@@ -53,22 +52,15 @@ map_flat_map f g (n ∷ ns) = ap (λ rest. map f (g n) ++ rest) (map_flat_map f 
 spanned_map : (f : Particle → Particle) (s : Span) (js : List Particle) → at_span s (map f js) ≡ map f (at_span s js)
 spanned_map f s js = ap (take s.len) (drop-map f s.first js) ∙ take-map f s.len (drop s.first js)
 
-module _ (laws : Laws) (u : Setup) (built now : List Particle) (rises : IsStrictlyIncreasing (map (λ p. p.id) built)) where
+module _ (laws : BuildLaws) (u : Setup) (built now : List Particle) (rises : IsStrictlyIncreasing (map (λ p. p.id) now)) (same : map (λ p. p.id) built ≡ map (λ p. p.id) now) where
   -- a particle of the build is found again by what it is now
   found_again : (j : Particle) → Contains built j → as_in built (as_in now j) ≡ j
-  found_again j (k, within, is) =
-      let i = as_in now j in
-      let id : i.id ≡ j.id = same_id now j in
-      let there : (get_or built k j).id ≡ i.id = ap (λ (q : Particle). q.id) is ∙ sym id in
-      let less : (n : ℕ) (e : Particle) → n < k → (get_or built n e).id < i.id = λ n e below. (let lower = id_order built (ascend built rises) n k e below within in
-      let at : (get_or built k e).id ≡ (get_or built k j).id = ap (λ (q : Particle). q.id) (get_or_default built k e j within) in
-      omega (arith, lower, at, there)) in
-      ap (λ o. unwrap_or o i) (finds i.id k built j less within there) ∙ is
+  found_again j has = found laws.now built (subst IsStrictlyIncreasing (sym same) rises) (as_in now j) j has (sym (id_now laws.now now rises built same j has))
 
   -- the list of its group, as it is now
   kept_for : (rank : ℕ) (j : Particle) → Contains (particles_of u.grid built rank) j → list_for u built now (as_in now j) ≡ kept_list u.theta (box_of (group_of u.group (particles_of u.grid built rank) j)) built now
   kept_for rank j member =
-      let owned = owned_among u.grid built rank j member in
+      let owned = owned_among laws u.grid built rank j member in
       ap (λ (b : Particle). kept_list u.theta (box_of (group_of u.group (particles_of u.grid built (owner u.grid built b.at)) b)) built now) (found_again j owned.0)
       ∙ ap (λ (r : ℕ). kept_list u.theta (box_of (group_of u.group (particles_of u.grid built r) j)) built now) owned.1
 
@@ -174,10 +166,7 @@ pub record AreKnown (limit : ℕ) (t : Criterion) (g : Division) (built now : Li
   pub same : map (λ p. p.id) built ≡ map (λ p. p.id) now
   pub kept : AreKept limit t g built now ks
 
-module _ (laws : Laws) (have : KeptGroupsHaveTheirLists) (u : Setup) (built now : List Particle) (ks : List RankKept) (known : AreKnown u.group u.theta u.grid built now ks) where
-  rising : IsStrictlyIncreasing (map (λ p. p.id) built)
-  rising = subst IsStrictlyIncreasing (sym known.same) known.rises
-
+module _ (laws : BuildLaws) (have : KeptGroupsHaveTheirLists) (u : Setup) (built now : List Particle) (ks : List RankKept) (known : AreKnown u.group u.theta u.grid built now ks) where
   kept_at : (k : ℕ) (d : RankKept) → k < length ks → IsRankKept u.group (seen_from u.theta u.grid built now k) (get_or ks k d)
   kept_at k d within = known.kept.each k d within
 
@@ -190,14 +179,14 @@ module _ (laws : Laws) (have : KeptGroupsHaveTheirLists) (u : Setup) (built now 
   all_present : IsPermutation now (flat_map (λ (l : GroupList). l.bodies) (groups_in ks))
   all_present =
       let of_rank : ℕ → List Particle = λ n. map (as_in now) (particles_of u.grid built n) in
-      let dealt : IsPermutation built (flat_map (particles_of u.grid built) (range_with_len 0 (rank_count u.grid))) = dealt_out (λ (j : Particle). owner u.grid built j.at) (rank_count u.grid) (λ j. laws.owners u.grid built j.at known.division) built in
+      let dealt : IsPermutation built (flat_map (particles_of u.grid built) (range_with_len 0 (rank_count u.grid))) = laws.in_turn u.grid built known.division in
       let moved : IsPermutation now (flat_map of_rank (range_with_len 0 (rank_count u.grid))) =
-      subst (λ (js : List Particle). IsPermutation js (flat_map of_rank (range_with_len 0 (rank_count u.grid)))) (all_now now built (ascend now known.rises) known.same)
+      subst (λ (js : List Particle). IsPermutation js (flat_map of_rank (range_with_len 0 (rank_count u.grid)))) (all_now laws.now now known.rises built known.same)
       (subst (IsPermutation (map (as_in now) built)) (sym (map_flat_map (as_in now) (particles_of u.grid built) (range_with_len 0 (rank_count u.grid))))
       (IsPermutation-map (as_in now) built (flat_map (particles_of u.grid built) (range_with_len 0 (rank_count u.grid))) dealt)) in
       let own = permuted_by_rank of_rank (λ (r : RankKept). flat_map (λ (l : GroupList). l.bodies) r.lists.groups) 0 ks
       (λ k d within. subst (λ (n : ℕ). IsPermutation (of_rank n) (flat_map (λ (l : GroupList). l.bodies) (get_or ks k d).lists.groups)) (omega arith)
-      (own_bodies laws u built now rising k (get_or ks k d) (kept_at k d within) (has_at k d within))) in
+      (own_bodies laws u built now known.rises known.same k (get_or ks k d) (kept_at k d within) (has_at k d within))) in
       let whole : IsPermutation (flat_map of_rank (range_with_len 0 (rank_count u.grid))) (flat_map (λ (l : GroupList). l.bodies) (groups_in ks)) =
       subst (IsPermutation (flat_map of_rank (range_with_len 0 (rank_count u.grid)))) (sym (joined_bodies (λ (r : RankKept). r.lists.groups) ks))
       (subst (λ (n : ℕ). IsPermutation (flat_map of_rank (range_with_len 0 n)) (flat_map (λ (r : RankKept). flat_map (λ (l : GroupList). l.bodies) r.lists.groups) ks)) known.kept.counted own) in
@@ -208,17 +197,17 @@ module _ (laws : Laws) (have : KeptGroupsHaveTheirLists) (u : Setup) (built now 
     all = all_present;
     each =
         all_joined (λ (l : GroupList). All (λ i. l.entries ≡ list_for u built now i) l.bodies) (λ (r : RankKept). r.lists.groups) ks
-        (λ k d within. have_lists laws u built now rising k (get_or ks k d) (kept_at k d within) (has_at k d within));
+        (λ k d within. have_lists laws u built now known.rises known.same k (get_or ks k d) (kept_at k d within) (has_at k d within));
   }
 
   pub kept_lines : map (λ (r : RankKept). r.line) ks ≡ map (rank_counts u built) (ranks u)
   kept_lines =
       map_by_rank (λ (r : RankKept). r.line) (rank_counts u built) 0 ks
-      (λ k d within. line_is laws u built now rising k (get_or ks k d) (kept_at k d within) (has_at k d within) ∙ ap (rank_counts u built) (omega arith))
+      (λ k d within. line_is laws u built now known.rises known.same k (get_or ks k d) (kept_at k d within) (has_at k d within) ∙ ap (rank_counts u built) (omega arith))
       ∙ ap (λ (n : ℕ). map (rank_counts u built) (range_with_len 0 n)) known.kept.counted
 
   pub kept_counted : (k : ℕ) (d : RankKept) → k < length ks → (get_or ks k d).line.groups ≡ length (get_or ks k d).lists.groups
-  kept_counted k d within = counted laws u built now rising k (get_or ks k d) (kept_at k d within) (has_at k d within)
+  kept_counted k d within = counted laws u built now known.rises known.same k (get_or ks k d) (kept_at k d within) (has_at k d within)
 
 -- as a run that builds so sees it
 pub known_for : (g : Division) (t : Criterion) (limit : ℕ) (built now : List Particle) (ks : List RankKept) (u : Setup) → BuildsBy g t limit u → AreKnown limit t g built now ks → AreKnown u.group u.theta u.grid built now ks

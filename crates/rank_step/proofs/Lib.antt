@@ -2,7 +2,6 @@ pub mod BuildLemmas
 pub mod KeptLemmas
 pub mod DealLemmas
 pub mod NowLemmas
-pub mod OrderLemmas
 pub mod FaultLemmas
 pub mod ForceLemmas
 pub mod StepLemmas

@@ -2,11 +2,10 @@
 use Rattle.std.proofs.Common.{◌≡◌, ◌⊎◌, inl, inr, ℕ, ℤ, ◌+◌, ◌%◌, ◌<◌, ◌≤◌, zero, suc, Bool, true, false, nat_eq, List, [], ◌∷◌, ◌++◌, length, get_or, take, map, Option, Some, None, refl, sym, ◌∙◌, ap, subst, arith, add-one}
 use Rattle.std.specs.Prelude.{Result, Ok, Err, IfOk, option_map, option_and_then, if◌then◌else◌, IsPermutation}
 use Rattle.std.specs.List.{zip}
-use Rattle.std.specs.List.Sorted.{IsStrictlyIncreasing, IsNonDecreasing, IsNonDecreasingBy}
+use Rattle.std.specs.List.Sorted.{IsStrictlyIncreasing, IsNonDecreasingBy}
 use Rattle.std.proofs.Math.Seq.{take-append_seam}
-use Rattle.std.proofs.lemmas.Map.Keys.{IsStrictlyIncreasing-from_distinct}
 use Rattle.std.proofs.lemmas.Bool.{eq-eqb, ne_eqb}
-use Rattle.std.proofs.lemmas.List.{length-map, get_or-map}
+use Rattle.std.proofs.lemmas.List.{length-map}
 use Rattle.std.proofs.lemmas.List.Sorted.{length_permutation}
 use Rattle.kern_tree.specs.declared.kernel.Kernel.{Kernel}
 use Rattle.pf_geom.specs.declared.edge.Edge.{Edge}
@@ -17,9 +16,8 @@ use Rattle.pf_model.specs.Division.{Division}
 use Rattle.pf_model.specs.Domains.{owner, owner_by}
 use Rattle.order_laws.specs.Order.{first_some}
 use Rattle.pf_model.specs.Particle.{Particle}
-use Rattle.model_laws.specs.IdLaws.{OrdersByIdAreOne}
 use Rattle.model_laws.specs.ParticleLaws.{DistinctIdsIgnoreOrder}
-use Rattle.pf_model.specs.Particles.{AreBodies, by_id}
+use Rattle.pf_model.specs.Particles.{AreBodies, AreInIdOrder, by_id}
 use Rattle.group_lists.specs.Whole.{GroupList}
 use Rattle.force_phase.specs.Phase.{bodies_in}
 use Rattle.run_model.specs.declared.step_text.BodyLine.{BodyLine}
@@ -39,7 +37,8 @@ use Rattle.run_model.specs.Answers.{StopsAt}
 use Rattle.rank_step.specs.Build.{AreListsOf, BuildsBy, IsTooMany}
 use Rattle.rank_step.specs.LastBuild.{AreKeptSince, IsBuildOf, IsLastBefore, IsLastFor, built_from, owners_of}
 use Rattle.run_moves.specs.Moves.{MovesBy}
-use Rattle.rank_step.specs.Ranks.{HaveTogether, as_now, held_now, with_owners}
+use Rattle.rank_step.specs.Laws.{NowLaws, ReadLaws}
+use Rattle.rank_step.specs.Ranks.{HaveTogether, held_now, with_owners}
 use Rattle.rank_step.specs.Trees.{BeginAsKept}
 use Rattle.multisection.specs.Regions.{Regions, regions_of}
 use Rattle.refresh_phase.specs.Kept.{AreKept, RankKept}
@@ -51,7 +50,6 @@ use Rattle.rank_step.specs.Told.{Reaches, row_with, text_with}
 use Rattle.rank_step.specs.World.{Follows, IsBefore, IsSound, IsStanding, StandsFor, Standing, Steps}
 use Rattle.exchange.specs.States.{Holding}
 use Rattle.rank_step.proofs.NowLemmas.{all_now, together_now}
-use Rattle.rank_step.proofs.OrderLemmas.{Ascend, ascend, by_id-ascending, distinct-ascending}
 
 -- ---- one fault after another
 
@@ -157,8 +155,8 @@ module _ (group : ℕ) (bodies : List WithForces) (standing : IsStanding group b
   pub ids_ascend : (now : List Particle) → map (λ p. p.id) now ≡ map (λ b. b.body.id) bodies → IsStrictlyIncreasing (map (λ p. p.id) now)
   ids_ascend now e = subst IsStrictlyIncreasing (sym e) standing.ascending
 
-  pub are_bodies : (now : List Particle) → map (λ p. p.id) now ≡ map (λ b. b.body.id) bodies → AreBodies now
-  are_bodies now e = record { few = few_by_ids (λ (p : Particle). p.id) now e; distinct = distinct-ascending now (ascend now (ids_ascend now e)) }
+  pub are_bodies : NowLaws → (now : List Particle) → map (λ p. p.id) now ≡ map (λ b. b.body.id) bodies → AreBodies now
+  are_bodies laws now e = record { few = few_by_ids (λ (p : Particle). p.id) now e; distinct = laws.differ now ((laws.increase now).1 (ids_ascend now e)) }
 
   pub stands_on : (after : List WithForces) → map (λ b. b.body.id) after ≡ map (λ b. b.body.id) bodies → IsStanding group after
   stands_on after e = record {
@@ -169,9 +167,9 @@ module _ (group : ℕ) (bodies : List WithForces) (standing : IsStanding group b
   }
 
 -- the ranks of the last build have together its particles where they are now
-pub ranks_now : (g : Division) (built now : List Particle) (ranks after : List Holding) → IsStrictlyIncreasing (map (λ p. p.id) now) → map (λ p. p.id) built ≡ map (λ p. p.id) now → HaveTogether g built ranks → after ≡ map (held_now now) ranks → HaveTogether g now after
-ranks_now g built now ranks after up same together is =
-    subst (HaveTogether g now) (sym is) (together_now g now built ranks (ascend now up) same together)
+pub ranks_now : NowLaws → (g : Division) (built now : List Particle) (ranks after : List Holding) → IsStrictlyIncreasing (map (λ p. p.id) now) → map (λ p. p.id) built ≡ map (λ p. p.id) now → HaveTogether g built ranks → after ≡ map (held_now now) ranks → HaveTogether g now after
+ranks_now laws g built now ranks after up same together is =
+    subst (HaveTogether g now) (sym is) (together_now laws g now built ranks up same together)
 
 -- where a step builds, it keeps lists for those without a build that may come
 pub last_of_build : (c : Course) (due : ℕ) (now : List Particle) (last : LastBuild) → last.bodies.items ≡ now → HaveTogether c.grid now last.ranks.items → (c.reuse ≡ 1) ⊎ AreKeptSince c.group c.theta c.grid now last.kept.items →
@@ -378,20 +376,12 @@ written n ys zs e = ap (λ k. take k (ys ++ zs)) e ∙ take-append_seam ys zs
 
 -- ---- the particles as they were read
 
-nondecreasing_ids : (ps : List Particle) → IsNonDecreasingBy (λ (p : Particle). p.id) ps → IsNonDecreasing (map (λ p. p.id) ps)
-nondecreasing_ids [] h i j d below within = absurd (omega arith)
-nondecreasing_ids (p ∷ ps) h i j d below within =
-    let long = length-map (p ∷ ps) (λ (q : Particle). q.id) in
-    let within_j : j < length (p ∷ ps) = omega (arith, long, within) in
-    let within_i : i < length (p ∷ ps) = omega (arith, within_j, below) in
-    let at_i = get_or-map (λ (q : Particle). q.id) (p ∷ ps) i p d within_i in
-    let at_j = get_or-map (λ (q : Particle). q.id) (p ∷ ps) j p d within_j in
-    let least = h i j p below within_j in
-    omega (arith, at_i, at_j, least)
+module _ (laws : ReadLaws) (read sorted : List Particle) (particles : AreBodies read) (same : IsPermutation read sorted) (order : IsNonDecreasingBy (λ (p : Particle). p.id) sorted) where
+  ascending : AreInIdOrder sorted
+  ascending = laws.rise (λ (p : Particle). p.id) sorted (laws.distinct read sorted same particles.distinct) order
 
-module _ (keep : DistinctIdsIgnoreOrder) (read sorted : List Particle) (particles : AreBodies read) (same : IsPermutation read sorted) (order : IsNonDecreasingBy (λ (p : Particle). p.id) sorted) where
   pub sorted_ascend : IsStrictlyIncreasing (map (λ p. p.id) sorted)
-  sorted_ascend = IsStrictlyIncreasing-from_distinct (map (λ (p : Particle). p.id) sorted) (nondecreasing_ids sorted order) (keep read sorted same particles.distinct)
+  sorted_ascend = (laws.increase sorted).0 ascending
 
   pub opened_stands : (group : ℕ) → 1 ≤ group → group ≤ MOST_GROUP → (bodies : List WithForces) → bodies ≡ map without_forces sorted → IsStanding group bodies
   opened_stands group some most bodies is = record {
@@ -419,12 +409,11 @@ module _ (keep : DistinctIdsIgnoreOrder) (read sorted : List Particle) (particle
     starts : (n : ℕ) → 1 ≤ n → 0 % n ≡ 0
     starts n some = omega arith
 
-  pub sorted_is : OrdersByIdAreOne → by_id read ≡ sorted
-  sorted_is one = one read sorted particles.distinct same ∙ by_id-ascending sorted (ascend sorted sorted_ascend)
+  pub sorted_is : by_id read ≡ sorted
+  sorted_is = laws.by_id read sorted same ascending
 
-  pub opened_is : OrdersByIdAreOne → (bodies : List WithForces) → bodies ≡ map without_forces sorted → map (λ (b : WithForces). b.body) bodies ≡ by_id read
-  opened_is one bodies is =
-      ap (map (λ (b : WithForces). b.body)) is ∙ fresh_bodies sorted ∙ sym (sorted_is one)
+  pub opened_is : (bodies : List WithForces) → bodies ≡ map without_forces sorted → map (λ (b : WithForces). b.body) bodies ≡ by_id read
+  opened_is bodies is = ap (map (λ (b : WithForces). b.body)) is ∙ fresh_bodies sorted ∙ sym sorted_is
 
 -- ---- what is told
 
@@ -438,13 +427,13 @@ owners_by g built js = map (λ p. owner g built p.at) js
 were : List Particle → List WithForces → List Particle
 were built bodies = map (λ b. as_in built b.body) bodies
 
-were_now : (built : List Particle) (bodies : List WithForces) → were built bodies ≡ map (as_now built) (map (λ b. b.body) bodies)
+were_now : (built : List Particle) (bodies : List WithForces) → were built bodies ≡ map (as_in built) (map (λ b. b.body) bodies)
 unfolding were
 were_now built [] = refl
-were_now built (b ∷ bs) = ap (λ rest. as_now built b.body ∷ rest) (were_now built bs)
+were_now built (b ∷ bs) = ap (λ rest. as_in built b.body ∷ rest) (were_now built bs)
 
-were_all : (built : List Particle) (bodies : List WithForces) → Ascend built → map (λ (p : Particle). p.id) built ≡ map (λ (b : WithForces). b.body.id) bodies → were built bodies ≡ built
-were_all built bodies up same = were_now built bodies ∙ all_now built (map (λ b. b.body) bodies) up (map_ids bodies ∙ sym same)
+were_all : NowLaws → (built : List Particle) (bodies : List WithForces) → IsStrictlyIncreasing (map (λ p. p.id) built) → map (λ (p : Particle). p.id) built ≡ map (λ (b : WithForces). b.body.id) bodies → were built bodies ≡ built
+were_all laws built bodies up same = were_now built bodies ∙ all_now laws built up (map (λ b. b.body) bodies) (map_ids bodies ∙ sym same)
 
 rows_are : (u : Setup) (built : List Particle) (bodies : List WithForces) → map (body_row u built) bodies ≡ map row_with (zip (owners_by u.grid built (were built bodies)) bodies)
 unfolding body_row row_by owners_by were
@@ -454,12 +443,12 @@ rows_are u built (b ∷ bs) = ap (λ rest. row_by b (owner u.grid built (as_in b
 text_by : ℕ → List RankLine → List BodyLine → StepText
 text_by s lines rows = record { step = s; ranks = lines; rows = rows }
 
-told_is : (u : Setup) (s : ℕ) (bodies : List WithForces) (lines : List RankLine) (last : LastBuild) → Reaches u s bodies lines last → Ascend last.bodies.items → map (λ (p : Particle). p.id) last.bodies.items ≡ map (λ (b : WithForces). b.body.id) bodies →
+told_is : NowLaws → (u : Setup) (s : ℕ) (bodies : List WithForces) (lines : List RankLine) (last : LastBuild) → Reaches u s bodies lines last → IsStrictlyIncreasing (map (λ p. p.id) last.bodies.items) → map (λ (p : Particle). p.id) last.bodies.items ≡ map (λ (b : WithForces). b.body.id) bodies →
     option_map (told u s) (state u s) ≡ Some (text_with s lines last.owners.items bodies)
 unfolding text_by owners_by
-told_is u s bodies lines last reaches up same =
+told_is laws u s bodies lines last reaches up same =
     let built = last.bodies.items in
-    let owners : owners_by u.grid built (were built bodies) ≡ last.owners.items = ap (owners_by u.grid built) (were_all built bodies up same) ∙ sym reaches.build.owners in
+    let owners : owners_by u.grid built (were built bodies) ≡ last.owners.items = ap (owners_by u.grid built) (were_all laws built bodies up same) ∙ sym reaches.build.owners in
     ap (option_map (told u s)) reaches.state
     ∙ (λ i. Some (text_by s (sym reaches.counts i) (rows_are u built bodies i)))
     ∙ ap (λ (os : List ℕ). Some (text_with s lines os bodies)) owners
@@ -483,9 +472,9 @@ steps_from c u due bodies lines last text f particles reaches told = record {
   };
 }
 
-pub steps_on : (c : Course) (u : Setup) (due : ℕ) (bodies : List WithForces) (lines : List RankLine) (last : LastBuild) (text : StepText) → Follows c u → AreBodies u.particles → Reaches u due bodies lines last →
+pub steps_on : NowLaws → (c : Course) (u : Setup) (due : ℕ) (bodies : List WithForces) (lines : List RankLine) (last : LastBuild) (text : StepText) → Follows c u → AreBodies u.particles → Reaches u due bodies lines last →
     IsSound c.grid c.theta c.group c.reuse (due + 1) bodies last → text ≡ text_with due lines last.owners.items bodies → Steps u due (world_of c (due + 1) bodies last) text
-steps_on c u due bodies lines last text f particles reaches sound is =
-    let up = ascend last.bodies.items (subst IsStrictlyIncreasing (sym sound.last_build.same) sound.standing.ascending) in
+steps_on laws c u due bodies lines last text f particles reaches sound is =
+    let up = subst IsStrictlyIncreasing (sym sound.last_build.same) sound.standing.ascending in
     subst (λ (n : ℕ). Steps u due (world_of c n bodies last) text) (sym (add-one due))
-    (steps_from c u due bodies lines last text f particles reaches (told_is u due bodies lines last reaches up sound.last_build.same ∙ ap Some (sym is)))
+    (steps_from c u due bodies lines last text f particles reaches (told_is laws u due bodies lines last reaches up sound.last_build.same ∙ ap Some (sym is)))

@@ -3,6 +3,7 @@ pub mod Build
 pub mod Trees
 pub mod Answers
 pub mod LastBuild
+pub mod Laws
 pub mod Taken
 pub mod Told
 pub mod World

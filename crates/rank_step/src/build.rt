@@ -12,18 +12,15 @@ ghost use Rattle.rank_step.specs.Trees.{AreFinished, BeginAsKept};
 ghost use Rattle.tree_phase.specs.Trees.{AreArrivals, HaveGathered};
 ghost use Rattle.pf_model.specs.Division.{rank_count};
 
+use crate::laws::{build_laws, own_laws};
 use exchange::RankState;
 use group_lists::MOST_ENTRIES;
-use model_laws::{
-    all_ranks_have_all, boxes_ignore_order, groups_ignore_order, kept_lists_begin_as_lists,
-    owners_are_ranks,
-};
 use multisection::Domains;
 use pf_io::Gate;
 use pf_model::{Body, Build, Grid, MOST_GROUP, MOST_RANKS, Terms, Theta};
 use pf_num::OutOfMemory;
-use run_model::StepFault;
 use refresh_phase::builds_begin_as_kept;
+use run_model::StepFault;
 use std::alloc::Global;
 use std::marker::Brand;
 use std::sync::Wait;
@@ -104,6 +101,7 @@ fn build_by<R: Threads + Wait + Sync, T: Terms + Send + Sync, G: Gate>(
     ensures few { (u : Setup) → BuildsBy T.grid T.theta limit u → OnOk result (lists_fault u T.particles ≡ None) }
     ensures fault { (u : Setup) → BuildsBy T.grid T.theta limit u → IfErr result (IsTooMany u T.particles) }
 {
+    own_laws();
     builds_begin_as_kept();
     let theta = build.theta;
     let Gathered {
@@ -135,11 +133,7 @@ fn finish<T: Terms>(
     ensures few { (u : Setup) → BuildsBy T.grid T.theta limit u → OnOk result (lists_fault u T.particles ≡ None) }
     ensures fault { (u : Setup) → BuildsBy T.grid T.theta limit u → IfErr result (IsTooMany u T.particles) }
 {
-    all_ranks_have_all();
-    owners_are_ranks();
-    groups_ignore_order();
-    boxes_ignore_order();
-    kept_lists_begin_as_lists();
+    build_laws();
     let count = count_of(&gathers);
     if count > MOST_ENTRIES {
         return Err(StepFault::Lists(count));

@@ -17,13 +17,15 @@ ghost use Rattle.rank_step.specs.World.{Follows, IsBefore, IsSound};
 use crate::forces::{Taken, build_and_take, take_again};
 use crate::held_now::held_now;
 use crate::last_build::LastBuild;
+use crate::laws::now_laws;
 use exchange::RankState;
 use kern_types::Typed;
 use pf_io::Gate;
 use pf_model::{Body, Grid, MOST_GROUP, Theta};
+use pf_num::OutOfMemory;
 use run_model::StepFault;
 use run_moves::{Forced, Motion, kick_again, moved};
-use std::alloc::{AllocError, Global};
+use std::alloc::Global;
 use std::sync::Wait;
 use std::thread::Threads;
 
@@ -64,6 +66,7 @@ impl Course {
         ensures fault { (u : Setup) → Follows self.now u → IsBefore u due bodies.now last.bodies.items
             → IfErr result (StopsBy u due) }
     {
+        now_laws();
         if due == 0 {
             self.first(rt, alloc, workers, gate, last)
         } else {
@@ -130,6 +133,7 @@ impl Course {
         ensures fault { (u : Setup) → Follows self.now u → IsBefore u due bodies.now last.bodies.items
             → IfErr result (StopsBy u due) }
     {
+        now_laws();
         let motion = Motion::of(&self.kernel, self.theta, self.dt);
         let now = moved(alloc, motion, bodies)?;
         let mut taken = self.forced(rt, alloc, workers, gate, due, last, now)?;
@@ -172,6 +176,7 @@ impl Course {
         ensures fault { (u : Setup) → Follows self.now u → IfErr result (StopsAt
             (taking_fault u (is_build u due) (built_from self.now.reuse due now.items last.bodies.items) now.items)) }
     {
+        now_laws();
         if due % self.reuse == 0 {
             let ranks = ranks_now(alloc, last, &now)?;
             build_and_take(rt, alloc, workers, gate, self, ranks, now)
@@ -183,7 +188,7 @@ impl Course {
 
 // What the ranks of the last build have, where the particles, which are given by ascending id, are now. The lists of
 // that build are dropped, before those of the next are made.
-fn ranks_now(alloc: Global, last: LastBuild, now: &[Body]) -> Result<Vec<RankState>, AllocError>
+fn ranks_now(alloc: Global, last: LastBuild, now: &[Body]) -> Result<Vec<RankState>, OutOfMemory>
     requires { IsStrictlyIncreasing (map (λ p. p.id) now.now) }
     ensures { IfOk result (λ ranks. ranks.items ≡ map (held_now now.now) last.ranks.items) }
 {

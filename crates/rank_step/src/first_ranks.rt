@@ -2,6 +2,7 @@ ghost use Rattle.std.specs.Prelude.{◌≡◌, ◌≤◌, IfOk, map};
 ghost use Rattle.std.specs.List.Sorted.{IsStrictlyIncreasing};
 ghost use Rattle.rank_step.specs.Ranks.{HaveTogether, dealt_to, first_ranks};
 
+use crate::laws::deal_laws;
 use exchange::RankState;
 use pf_model::{Body, Grid};
 use std::alloc::{AllocError, Global};
@@ -16,6 +17,7 @@ pub(crate) fn first_ranks(
     ensures first { IfOk result (λ ranks. ranks.items ≡ first_ranks grid bodies.now) }
     ensures together { IfOk result (λ ranks. HaveTogether grid bodies.now ranks.items) }
 {
+    deal_laws();
     let count = grid.nx * grid.ny * grid.nz;
     let mut ranks = Vec::with_capacity(alloc, count as usize)?;
     for rank in 0..count {
@@ -35,6 +37,7 @@ fn first_rank(
     requires some { 1 ≤ count }
     ensures { IfOk result (λ state. state ≡ record { rank = rank; bodies = dealt_to count bodies.now rank }) }
 {
+    deal_laws();
     let bodies = every(alloc, bodies, rank as usize, count as usize)?;
     Ok(RankState { rank, bodies })
 }

@@ -23,13 +23,14 @@ use crate::build::{Built, build};
 use crate::course::Course;
 use crate::keeping::keep;
 use crate::last_build::LastBuild;
+use crate::laws::row_laws;
 use crate::refreshing::refreshed;
 use exchange::RankState;
 use exchange_phase::exchanged;
 use force_phase::{Claims, IdRow, forces};
 use group_lists::HasLists;
 use kern_types::Typed;
-use model_laws::{distinct_ids_ignore_order, orders_by_id_are_one};
+use model_laws::distinct_ids_ignore_order;
 use multisection::{Domains, make_domains, owner};
 use pf_geom::Edge;
 use pf_io::Gate;
@@ -264,7 +265,7 @@ fn with_forces<R: Threads + Sync, H: HasLists + Sync, G: Gate>(
         → TakesFrom t.now edge built now.now (flat_map H.has lists.now) u
         → IfErr result (StopsAt (first_given (forces_fault u built now.now) now.now)) }
 {
-    orders_by_id_are_one();
+    row_laws();
     let out = forces(rt, alloc, workers, t, lists, edge, gate)?;
     let bodies = paired(alloc, now, out.rows)?;
     Ok((bodies, out.claims))

@@ -10,6 +10,7 @@ mod forces;
 mod held_now;
 mod keeping;
 mod last_build;
+mod laws;
 mod refreshing;
 mod told;
 mod world;

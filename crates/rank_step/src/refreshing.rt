@@ -12,10 +12,7 @@ ghost use Rattle.rank_step.specs.Told.{groups_told};
 ghost use Rattle.rank_step.specs.World.{Follows};
 
 use crate::course::Course;
-use model_laws::{
-    all_ranks_have_all, boxes_ignore_order, groups_ignore_order, kept_lists_begin_as_lists,
-    owners_are_ranks,
-};
+use crate::laws::build_laws;
 use pf_io::Gate;
 use pf_model::{Body, Build, Terms};
 use pf_num::OutOfMemory;
@@ -52,11 +49,7 @@ pub(crate) fn refreshed<R: Threads + Wait + Sync, G: Gate>(
         groups_told (map (λ k. k.line) r.ranks.items) ≡ length (flat_map (λ k. k.lists.groups) r.ranks.items)) }
     ensures arrivals { IfOk result (λ r. AreArrivals (rank_count course.now.grid) r.arrivals.items) }
 {
-    all_ranks_have_all();
-    owners_are_ranks();
-    groups_ignore_order();
-    boxes_ignore_order();
-    kept_lists_begin_as_lists();
+    build_laws();
     kept_groups_have_their_lists();
     let build = Build::of(built, course.grid, course.theta);
     refreshed_by::<R, Brand, G>(rt, alloc, workers, gate, build, kept, now)

@@ -15,10 +15,10 @@ use crate::course::Course;
 use crate::first_ranks::first_ranks;
 use crate::forces::Taken;
 use crate::last_build::LastBuild;
+use crate::laws::{now_laws, read_laws};
 use crate::told::told;
 use force_phase::Claims;
 use kern_types::Typed;
-use model_laws::{distinct_ids_ignore_order, orders_by_id_are_one};
 use pf_io::Gate;
 use pf_model::{Body, Grid, MOST_GROUP, Theta};
 use pf_num::OutOfMemory;
@@ -110,8 +110,7 @@ impl World {
           reuse = s.reuse;
         })) }
     {
-        distinct_ids_ignore_order();
-        orders_by_id_are_one();
+        read_laws();
         let mut bodies = s.bodies;
         sort_by_id(&mut bodies);
         Ok(World {
@@ -175,6 +174,7 @@ fn after(
         → IfOk result (λ r. HaveAllGroups workers (groups_told r.1.text.ranks) r.1.claims.items) }
     ensures fault { IfErr result (λ f. f ≡ StepFault.Memory) }
 {
+    now_laws();
     let text = told(alloc, due, taken.counts, &taken.last.owners, &taken.bodies)?;
     let after = World {
         course,

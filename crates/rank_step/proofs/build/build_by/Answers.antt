@@ -4,7 +4,7 @@ use Rattle.refresh_phase.specs.Laws.{IsBuilt}
 use Rattle.rank_step.proofs.build.build_by.Goals as goal
 
 pub gather_all-requires-clause-own : goal.gather_all-requires-clause-own
-gather_all-requires-clause-own g c κs within = have_own g.T.Terms.grid g.T.Terms.particles c.requires.ascending c.args.ranks.now c.requires.owners
+gather_all-requires-clause-own g c κs within = have_own c.own_laws.ensures g.T.Terms.grid g.T.Terms.particles c.requires.ascending c.args.ranks.now c.requires.owners
 
 pub returns-in_err-finish-clause-fault : goal.returns-in_err-finish-clause-fault
 returns-in_err-finish-clause-fault g c u by =

@@ -1,7 +1,7 @@
 use Rattle.std.proofs.Common.{◌∙◌, ap, arith}
 use Rattle.std.specs.List.{sum_by}
 use Rattle.group_lists.specs.Gathering.{gathered_count}
-use Rattle.rank_step.proofs.BuildLemmas.{Laws, AreReady, all_whole, each_few, lists_for_run, lines_for_run, few_for_run, many_for_run}
+use Rattle.rank_step.proofs.BuildLemmas.{AreReady, all_whole, each_few, lists_for_run, lines_for_run, few_for_run, many_for_run}
 use Rattle.rank_step.proofs.build.finish.Given as given
 use Rattle.rank_step.proofs.build.finish.Goals as goal
 
@@ -17,29 +17,13 @@ finish_all-requires-clause-few g c =
 pub returns-then-count-gt-MOST_ENTRIES-clause-fault :
     goal.returns-then-count-gt-MOST_ENTRIES-clause-fault
 returns-then-count-gt-MOST_ENTRIES-clause-fault g c u by =
-    let laws : Laws = record {
-      groups = c.groups_ignore_order.ensures;
-      boxes = c.boxes_ignore_order.ensures;
-      ranks = c.all_ranks_have_all.ensures;
-      owners = c.owners_are_ranks.ensures;
-      kept = c.kept_lists_begin_as_lists.ensures;
-    } in
     let ready : AreReady c.args.limit g.T.Terms.grid g.T.Terms.particles c.args.gathers.items = record {
       division = g.T.Terms.is_division;
       up = c.requires.ascending;
       all = c.requires.gathered;
     } in
-    many_for_run laws g.T.Terms.grid g.T.Terms.theta c.args.limit g.T.Terms.particles c.args.gathers.items ready u by c.count_of-count.result
+    many_for_run c.build_laws.ensures g.T.Terms.grid g.T.Terms.theta c.args.limit g.T.Terms.particles c.args.gathers.items ready u by c.count_of-count.result
     (c.count_of-count.ensures ∙ ap (sum_by (gathered_count g.T.Terms.theta g.T.Terms.grid g.T.Terms.particles)) c.deref.ensures.value) c.if-count-gt-MOST_ENTRIES.true
-
-laws : (g : given.Over) (c : goal.In_ok-finish_all g) → Laws
-laws g c = record {
-  groups = c.groups_ignore_order.ensures;
-  boxes = c.boxes_ignore_order.ensures;
-  ranks = c.all_ranks_have_all.ensures;
-  owners = c.owners_are_ranks.ensures;
-  kept = c.kept_lists_begin_as_lists.ensures;
-}
 
 ready : (g : given.Over) (c : goal.In_ok-finish_all g) → AreReady c.args.limit g.T.Terms.grid g.T.Terms.particles c.args.gathers.items
 ready g c = record {
@@ -50,13 +34,13 @@ ready g c = record {
 
 pub returns-clause-lists : goal.returns-clause-lists
 returns-clause-lists g c u by =
-    lists_for_run (laws g c) g.T.Terms.grid g.T.Terms.theta c.args.limit g.T.Terms.particles c.args.gathers.items (ready g c) u by c.in_ok-finish_all.field-0.items c.in_ok-finish_all.ensures
+    lists_for_run c.build_laws.ensures g.T.Terms.grid g.T.Terms.theta c.args.limit g.T.Terms.particles c.args.gathers.items (ready g c) u by c.in_ok-finish_all.field-0.items c.in_ok-finish_all.ensures
 
 pub returns-clause-counts : goal.returns-clause-counts
 returns-clause-counts g c u by =
-    lines_for_run (laws g c) g.T.Terms.grid g.T.Terms.theta c.args.limit g.T.Terms.particles c.args.gathers.items (ready g c) u by c.in_ok-finish_all.field-0.items c.in_ok-finish_all.ensures
+    lines_for_run c.build_laws.ensures g.T.Terms.grid g.T.Terms.theta c.args.limit g.T.Terms.particles c.args.gathers.items (ready g c) u by c.in_ok-finish_all.field-0.items c.in_ok-finish_all.ensures
 
 pub returns-clause-few : goal.returns-clause-few
 returns-clause-few g c u by =
-    few_for_run (laws g c) g.T.Terms.grid g.T.Terms.theta c.args.limit g.T.Terms.particles c.args.gathers.items (ready g c) u by c.count_of-count.result
+    few_for_run c.build_laws.ensures g.T.Terms.grid g.T.Terms.theta c.args.limit g.T.Terms.particles c.args.gathers.items (ready g c) u by c.count_of-count.result
     (c.count_of-count.ensures ∙ ap (sum_by (gathered_count g.T.Terms.theta g.T.Terms.grid g.T.Terms.particles)) c.deref.ensures.value) c.if-count-gt-MOST_ENTRIES.false

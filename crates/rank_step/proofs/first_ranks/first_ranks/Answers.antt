@@ -21,4 +21,4 @@ returns-clause-together c =
     let same : inside ≡ rank_count c.args.grid = ap rank_count c.grid.view_is in
     let is : c.loop-rank.ranks.items ≡ first_ranks c.args.grid js =
     c.loop-rank.invariant ∙ ap (λ n. map (rank_with (dealt_to inside js)) (range_with_len 0 n)) end ∙ ap (λ n. map (rank_with (dealt_to n js)) (range_with_len 0 n)) same in
-    subst (HaveTogether c.args.grid js) (sym is) (first_together c.args.grid js (some_ranks c.args.grid (subst IsDivision c.grid.view_is c.grid.invariant)))
+    subst (HaveTogether c.args.grid js) (sym is) (first_together c.deal_laws.ensures c.args.grid js (some_ranks c.args.grid (subst IsDivision c.grid.view_is c.grid.invariant)))

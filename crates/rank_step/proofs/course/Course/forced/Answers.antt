@@ -11,7 +11,7 @@ use Rattle.rank_step.proofs.course.Course.forced.Goals as goal
 
 pub build_and_take-requires-clause-together : goal.build_and_take-requires-clause-together
 build_and_take-requires-clause-together g c κs within =
-    ranks_now c.args.self.now.grid c.args.last.bodies.items c.args.now.items c.args.last.ranks.items c.in_ok-ranks.ranks.items c.requires.ascending c.requires.last.same c.requires.last.together
+    ranks_now c.now_laws.ensures c.args.self.now.grid c.args.last.bodies.items c.args.now.items c.args.last.ranks.items c.in_ok-ranks.ranks.items c.requires.ascending c.requires.last.same c.requires.last.together
     (c.in_ok-ranks.ensures ∙ ap (λ (js : List Particle). map (held_now js) c.args.last.ranks.items) c.deref.ensures.value)
 
 pub returns-in_ok-ranks-clause-taken : goal.returns-in_ok-ranks-clause-taken

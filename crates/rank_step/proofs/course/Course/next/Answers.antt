@@ -13,7 +13,7 @@ forced-requires-clause-particles g c κs within =
     let course = c.args.self.now in
     let u = steps.run_of course in
     let moves = steps.moves_by c.of-motion.result course c.of-motion.ensures.place c.of-motion.ensures.edge c.of-motion.ensures.dt u (steps.run_follows course) in
-    steps.are_bodies _ _ c.requires.sound.standing _ (steps.map_moved_ids u _ _ (c.in_ok-now.ensures.moved u moves))
+    steps.are_bodies _ _ c.requires.sound.standing c.now_laws.ensures _ (steps.map_moved_ids u _ _ (c.in_ok-now.ensures.moved u moves))
 
 pub forced-requires-clause-ascending : goal.forced-requires-clause-ascending
 forced-requires-clause-ascending g c κs within =

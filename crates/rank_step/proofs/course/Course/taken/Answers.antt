@@ -10,7 +10,7 @@ use Rattle.rank_step.proofs.StepLemmas.{are_bodies, both_ok, build_before, ids_a
 use Rattle.rank_step.proofs.course.Course.taken.Goals as goal
 
 pub first-requires-clause-particles : goal.first-requires-clause-particles
-first-requires-clause-particles g c κs within = are_bodies _ _ c.requires.sound.standing _ c.requires.sound.last_build.same
+first-requires-clause-particles g c κs within = are_bodies _ _ c.requires.sound.standing c.now_laws.ensures _ c.requires.sound.last_build.same
 
 pub first-requires-clause-ascending : goal.first-requires-clause-ascending
 first-requires-clause-ascending g c κs within = ids_ascend _ _ c.requires.sound.standing _ c.requires.sound.last_build.same
