@@ -1,4 +1,3 @@
-mod kernels;
 mod pairs;
 mod parsing;
 mod printing;

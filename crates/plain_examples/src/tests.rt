@@ -1,5 +1,4 @@
 mod faults;
 mod forces;
 mod inputs;
-mod kernels;
 mod steps;

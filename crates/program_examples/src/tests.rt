@@ -3,7 +3,6 @@ mod failing;
 mod faults;
 mod forces;
 mod inputs;
-mod kernels;
 mod limits;
 mod moves;
 mod program;

@@ -1,7 +1,7 @@
 ghost use Rattle.std.specs.Prelude.{◌^◌, ◌<◌, ◌≤◌, unsigned_abs};
 ghost use Rattle.pf_model.specs.Particle.{IsMass};
 
-use super::{kernels, read};
+use super::read;
 use kern_meaning::{PairFault, PairKind, for_kernel, pair, slot};
 use kern_types::{check, slots};
 use pf_geom::Point;
@@ -100,7 +100,14 @@ fn counts(
 fn a_difference_pulls_along_each_axis(rt: HostRuntime) -> Result<(), Fail> {
     let i = particle(point(0), 1);
     let j = item(Point { x: 3, y: 4, z: 0 }, 1, 0);
-    gives(&rt, rt.alloc(), kernels::PULL, i, j, Ok(Some([3, 4, 0])))
+    gives(
+        &rt,
+        rt.alloc(),
+        example_kernels::PULL,
+        i,
+        j,
+        Ok(Some([3, 4, 0])),
+    )
 }
 
 #[test]
@@ -110,7 +117,7 @@ fn gravity_is_scaled_by_the_cube_of_the_distance(rt: HostRuntime) -> Result<(), 
     gives(
         &rt,
         rt.alloc(),
-        kernels::GRAVITY_AND_A_GREATEST,
+        example_kernels::FARTHEST,
         i,
         j,
         Ok(Some([24_000, 32_000, 0])),
@@ -120,7 +127,7 @@ fn gravity_is_scaled_by_the_cube_of_the_distance(rt: HostRuntime) -> Result<(), 
 #[test]
 fn each_slot_has_what_its_statement_gave(rt: HostRuntime) -> Result<(), Fail> {
     let alloc = rt.alloc();
-    let t = check(alloc, read(&rt, alloc, kernels::GRAVITY_AND_A_GREATEST)?)?;
+    let t = check(alloc, read(&rt, alloc, example_kernels::FARTHEST)?)?;
     let mut s = for_kernel(alloc, &t)?;
     let i = particle(point(0), 1);
     let j = item(point(1_073_741_823), 1, 0);
@@ -139,7 +146,7 @@ fn a_divisor_0_at_one_place_is_coincident(rt: HostRuntime) -> Result<(), Fail> {
     gives(
         &rt,
         alloc,
-        kernels::GRAVITY_AND_A_GREATEST,
+        example_kernels::FARTHEST,
         i,
         j,
         faults(PairKind::Coincident, 4),
@@ -147,12 +154,12 @@ fn a_divisor_0_at_one_place_is_coincident(rt: HostRuntime) -> Result<(), Fail> {
     gives(
         &rt,
         alloc,
-        kernels::SOFTENED_GRAVITY,
+        example_kernels::SOFT_GRAVITY,
         i,
         j,
         Ok(Some([0, 0, 0])),
     )?;
-    gives(&rt, alloc, kernels::GUARDED_GRAVITY, i, j, Ok(None))
+    gives(&rt, alloc, example_kernels::GUARDED_GRAVITY, i, j, Ok(None))
 }
 
 #[test]
@@ -175,7 +182,7 @@ fn an_untaken_block_gives_nothing(rt: HostRuntime) -> Result<(), Fail> {
     gives(
         &rt,
         alloc,
-        kernels::A_CONDITION,
+        example_kernels::GREAT_SUM,
         particle(point(0), 9),
         j,
         given,
@@ -183,7 +190,7 @@ fn an_untaken_block_gives_nothing(rt: HostRuntime) -> Result<(), Fail> {
     gives(
         &rt,
         alloc,
-        kernels::A_CONDITION,
+        example_kernels::GREAT_SUM,
         particle(point(0), 8),
         j,
         Ok(None),

@@ -1,5 +1,5 @@
+use super::read;
 use super::shown::{shown, shown_decls};
-use super::{kernels, read};
 use kern_token::KernFault;
 use std::alloc::{AllocError, Global};
 use std::process::Abort;
@@ -48,11 +48,11 @@ fn declarations_and_a_contribution(rt: HostRuntime) -> Result<(), Fail> {
     let alloc = rt.alloc();
     let decls =
         "0:Epi xi Vec3 0 pos; 21:Epj xj Vec3 0 pos; 42:Force acc Vec3 16 Sum; 65:Force pull Vec3 0 Sum; ";
-    is_declared_as(&rt, alloc, kernels::PULL, decls)?;
+    is_declared_as(&rt, alloc, example_kernels::PULL, decls)?;
     is_read_as(
         &rt,
         alloc,
-        kernels::PULL,
+        example_kernels::PULL,
         "88:pull += 99:(96:xj Sub 101:xi); ",
     )
 }
@@ -63,11 +63,11 @@ fn assignments_and_calls(rt: HostRuntime) -> Result<(), Fail> {
     let decls =
         "0:Epi xi Vec3 0 pos; 21:Epj xj Vec3 0 pos; 42:Epj mj Num 0 mass; 64:Force acc Vec3 16 Sum; \
         87:Param g 16 1000000; ";
-    is_declared_as(&rt, alloc, kernels::GRAVITY, decls)?;
+    is_declared_as(&rt, alloc, example_kernels::GRAVITY, decls)?;
     let body =
         "110:d = 117:(114:xj Sub 119:xi); 123:r2 = 130:(128:d Mul 132:d); 135:r = 139:Isqrt(145:r2); \
         150:acc += 179:(157:Muldiv(166:(164:g Mul 168:mj), 172:d, 175:r2) Div 181:r); ";
-    is_read_as(&rt, alloc, kernels::GRAVITY, body)
+    is_read_as(&rt, alloc, example_kernels::GRAVITY, body)
 }
 
 #[test]

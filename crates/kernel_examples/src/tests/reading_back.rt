@@ -1,4 +1,4 @@
-use super::{kernels, read};
+use super::read;
 use kern_print::print;
 use std::alloc::Global;
 use std::process::Abort;
@@ -18,16 +18,16 @@ fn is_printed_as(rt: &impl Abort, alloc: Global, text: &str, wanted: &str) -> Re
 fn canonical_kernels_are_printed_as_they_were_read(rt: HostRuntime) -> Result<(), Fail> {
     let alloc = rt.alloc();
     for text in [
-        kernels::PULL,
-        kernels::GRAVITY,
-        kernels::SOFTENED_GRAVITY,
-        kernels::GRAVITY_AND_A_GREATEST,
-        kernels::A_QUOTIENT,
-        kernels::A_CONDITION,
-        kernels::GUARDED_GRAVITY,
-        kernels::A_QUOTIENT_OF_THE_RECEIVER,
-        kernels::A_ROOT,
-        kernels::A_PRODUCT,
+        example_kernels::PULL,
+        example_kernels::GRAVITY,
+        example_kernels::SOFT_GRAVITY,
+        example_kernels::FARTHEST,
+        example_kernels::OVER_MASS,
+        example_kernels::GREAT_SUM,
+        example_kernels::GUARDED_GRAVITY,
+        example_kernels::OVER_OWN_MASS,
+        example_kernels::ROOT_OF_MASS,
+        example_kernels::GREAT_PRODUCT,
     ] {
         is_printed_as(&rt, alloc, text, text)?;
     }

@@ -1,4 +1,4 @@
-use super::{kernels, read};
+use super::read;
 use kern_tree::{Combine, Kind};
 use kern_types::{TypeFault, Typed, check, forces, kernel, slots, targets};
 use std::alloc::{AllocError, Global};
@@ -55,7 +55,7 @@ top += 1;
 #[test]
 fn a_typed_kernel_tells_its_forces_and_contributions(rt: HostRuntime) -> Result<(), Fail> {
     let alloc = rt.alloc();
-    let t = typed(&rt, alloc, kernels::GRAVITY_AND_A_GREATEST)??;
+    let t = typed(&rt, alloc, example_kernels::FARTHEST)??;
     assert_eq!(rt; kernel(&t).decls.as_slice().len(), 6);
     assert_eq!(rt; forces(&t).len(), 2);
     let acc = &forces(&t)[0];
@@ -76,7 +76,7 @@ fn a_typed_kernel_tells_its_forces_and_contributions(rt: HostRuntime) -> Result<
 
 #[test]
 fn a_contribution_in_a_block_is_one(rt: HostRuntime) -> Result<(), Fail> {
-    is_typed(&rt, rt.alloc(), kernels::A_CONDITION, 2, 1)
+    is_typed(&rt, rt.alloc(), example_kernels::GREAT_SUM, 2, 1)
 }
 
 #[test]

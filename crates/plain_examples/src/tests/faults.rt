@@ -1,7 +1,7 @@
 // The first fault of a step.
 
 use super::inputs::{Inputs, faults, says};
-use super::kernels::{GRAVITY, GREAT_SUM, OVER_MASS, OVER_OWN_MASS, PULL};
+use example_kernels::{GRAVITY, GREAT_SUM, OVER_MASS, OVER_OWN_MASS, PULL};
 use kern_meaning::PairKind;
 use pf_geom::Axis;
 use run_model::What;

@@ -1,7 +1,7 @@
 // The forces of a step, as its text shows them.
 
 use super::inputs::{Inputs, says};
-use super::kernels::{FARTHEST, GRAVITY, GREAT_SUM, GUARDED_GRAVITY, PULL, SOFT_GRAVITY};
+use example_kernels::{FARTHEST, GRAVITY, GREAT_SUM, GUARDED_GRAVITY, PULL, SOFT_GRAVITY};
 use std::test::Fail;
 
 const TWO_BODIES: &str = "particles 1\ncount 2\n1 0 0 0 0 0 0 1 0 0 0 0\n2 3 4 0 0 0 0 1 0 0 0 0\n";

@@ -1,7 +1,7 @@
 // The texts of steps: owners and counts on several ranks, kept lists, and moves.
 
 use super::inputs::{Inputs, says};
-use super::kernels::{FARTHEST, GRAVITY, PULL};
+use example_kernels::{FARTHEST, GRAVITY, PULL};
 use std::test::Fail;
 
 const TWO: &str = "particles 1\ncount 2\n1 0 0 0 0 0 0 1 0 0 0 0\n2 3 4 0 0 0 0 1 0 0 0 0\n";

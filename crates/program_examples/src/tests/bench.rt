@@ -1,7 +1,7 @@
 // The benchmark: the summary that it says, on any number of workers.
 
-use super::kernels::GRAVITY;
 use super::program::{Inputs, WHOLE, run_by, text};
+use example_kernels::GRAVITY;
 use std::process::Abort;
 use std::sync::Wait;
 use std::test::Fail;

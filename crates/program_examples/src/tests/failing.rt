@@ -1,7 +1,7 @@
 // A run of three dumps over stores that fail at some call, or that move one byte at a time.
 
-use super::kernels::PULL;
 use super::program::{Inputs, WHOLE, run};
+use example_kernels::PULL;
 use std::test::Fail;
 use top_call::{Status, code, said_line};
 

@@ -1,7 +1,7 @@
 // Kernels whose arithmetic has no result: the first fault is named, and nothing of its step is written.
 
-use super::kernels::{GRAVITY, GREAT_PRODUCT, GREAT_SUM, OVER_MASS, ROOT_OF_MASS};
 use super::program::{Inputs, stops};
+use example_kernels::{GRAVITY, GREAT_PRODUCT, GREAT_SUM, OVER_MASS, ROOT_OF_MASS};
 use std::test::Fail;
 
 #[test]

@@ -1,7 +1,7 @@
 // Inputs that are refused, each with the line that names its first fault, and inputs written in other ways.
 
-use super::kernels::{GRAVITY, PULL};
 use super::program::{Inputs, WHOLE, refuses, run, writes};
+use example_kernels::{GRAVITY, PULL};
 use pf_io::{MemStore, Open};
 use std::test::Fail;
 use top_call::{Status, code, fdps};

@@ -1,7 +1,7 @@
 // Lists that are as long as they may be together, and longer.
 
-use super::kernels::PULL;
 use super::program::{Inputs, WHOLE, run, writes};
+use example_kernels::PULL;
 use std::alloc::Global;
 use std::fmt::Write;
 use std::test::Fail;

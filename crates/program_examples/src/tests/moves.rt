@@ -1,7 +1,7 @@
 // Kicks and drifts of several steps, and the faults that end a run after the dumps of the steps before.
 
-use super::kernels::{GRAVITY, PULL};
 use super::program::{Inputs, stops, writes};
+use example_kernels::{GRAVITY, PULL};
 use std::test::Fail;
 
 #[test]

@@ -1,7 +1,7 @@
 // Runs on several ranks, as their dumps show them, whatever the number of workers.
 
-use super::kernels::{GRAVITY, PULL};
 use super::program::{Inputs, writes, writes_on_workers};
+use example_kernels::{GRAVITY, PULL};
 use std::fmt::Write;
 use std::test::Fail;
 

@@ -1,7 +1,7 @@
 // Runs whose lists are used again while particles move.
 
-use super::kernels::PULL;
 use super::program::{Inputs, WHOLE, run_by, writes_by};
+use example_kernels::PULL;
 use std::test::Fail;
 use top_call::code;
 

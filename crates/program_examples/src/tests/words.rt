@@ -1,7 +1,7 @@
 // The words after the program's name.
 
-use super::kernels::GRAVITY;
 use super::program::{Inputs, WHOLE, store_of};
+use example_kernels::GRAVITY;
 use pf_io::Open;
 use std::test::Fail;
 use top_call::{code, fdps};

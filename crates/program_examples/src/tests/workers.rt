@@ -1,7 +1,7 @@
 // Steps on several workers: they meet, and the dumps and faults are those of one.
 
-use super::kernels::{GRAVITY, OVER_OWN_MASS};
 use super::program::{Inputs, WHOLE, store_of};
+use example_kernels::{GRAVITY, OVER_OWN_MASS};
 use pf_io::{Meet, Open, Phase};
 use std::test::Fail;
 use top_call::{code, fdps};
