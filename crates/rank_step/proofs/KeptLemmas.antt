@@ -1,9 +1,9 @@
 -- The lists of a build that ranks keep are those of the run, where its particles are now.
-use Rattle.std.proofs.Common.{◌≡◌, ℕ, ◌+◌, ◌<◌, ◌≤◌, zero, suc, List, [], ◌∷◌, ◌++◌, length, get_or, take, drop, map, refl, sym, ◌∙◌, ap, subst, arith}
-use Rattle.std.specs.Prelude.{unwrap_or, Result, IfOk}
+use Rattle.std.proofs.Common.{◌≡◌, ℕ, ◌<◌, List, [], ◌∷◌, ◌++◌, length, get_or, take, drop, map, refl, sym, ◌∙◌, ap, subst, arith}
+use Rattle.std.specs.Prelude.{Result, IfOk}
 use Rattle.std.specs.List.{All, Contains, flat_map, range_with_len, zip}
 use Rattle.std.specs.List.Sorted.{IsPermutation, IsStrictlyIncreasing}
-use Rattle.std.proofs.lemmas.List.{length-map, get_or-map, get_or_default, map-append, take-map, drop-map}
+use Rattle.std.proofs.lemmas.List.{length-map, get_or-map, map-append, take-map, drop-map}
 use Rattle.std.proofs.lemmas.List.Elements.{Contains-get_or}
 use Rattle.std.proofs.lemmas.List.Folds.{flat_map-map}
 use Rattle.std.proofs.lemmas.Slice.Zip.{length-zip, get_or-zip}
@@ -15,7 +15,7 @@ use Rattle.pf_model.specs.Criterion.{Criterion}
 use Rattle.pf_model.specs.Division.{Division, IsDivision, rank_count}
 use Rattle.pf_model.specs.Domains.{owner, particles_of}
 use Rattle.pf_model.specs.Group.{group_of, group_cells, particles_in, box_of}
-use Rattle.pf_model.specs.Groups.{RankGroup, groups_of_rank, group_list}
+use Rattle.pf_model.specs.Groups.{groups_of_rank, group_list}
 use Rattle.pf_model.specs.Interaction.{list_of}
 use Rattle.pf_model.specs.Particle.{Particle}
 use Rattle.pf_model.specs.Reuse.{as_in, kept_list}

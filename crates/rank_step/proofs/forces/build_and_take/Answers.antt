@@ -1,9 +1,8 @@
-use Rattle.std.proofs.Common.{◌≡◌, ℕ, List, true, length, get_or, map, ap, refl, sym, ◌∙◌, subst}
+use Rattle.std.proofs.Common.{ℕ, List, true, length, get_or, map, ap, refl, sym, ◌∙◌, subst}
 use Rattle.std.specs.List.{flat_map}
 use Rattle.std.proofs.lemmas.Result.{err_from_is_err_and}
 use Rattle.pf_model.specs.Particle.{Particle}
 use Rattle.pf_model.specs.Particles.{AreBodies}
-use Rattle.group_lists.specs.Whole.{GroupList}
 use Rattle.force_phase.specs.Claims.{HaveAllGroups}
 use Rattle.force_phase.specs.Phase.{bodies_in}
 use Rattle.tree_phase.specs.declared.rank_lists.RankLists.{RankLists}

@@ -1,4 +1,4 @@
-use Rattle.std.proofs.Common.{◌≡◌, ℕ, List, false, length, map, sym, ◌∙◌, ap, subst}
+use Rattle.std.proofs.Common.{ℕ, List, false, length, map, sym, ◌∙◌, ap, subst}
 use Rattle.std.specs.List.{flat_map}
 use Rattle.std.proofs.lemmas.Result.{err_from_is_err_and}
 use Rattle.pf_model.specs.Particle.{Particle}
@@ -8,7 +8,6 @@ use Rattle.force_phase.specs.Phase.{bodies_in}
 use Rattle.refresh_phase.specs.Kept.{AreKept, RankKept}
 use Rattle.run_model.specs.Force.{first_given}
 use Rattle.run_model.specs.Run.{forces_fault}
-use Rattle.run_model.specs.declared.step_text.RankLine.{RankLine}
 use Rattle.rank_step.specs.declared.course.Course.{Course}
 use Rattle.run_model.specs.Answers.{StopsAt}
 use Rattle.rank_step.specs.Build.{AreListsOf}

@@ -1,4 +1,4 @@
-use Rattle.std.proofs.Common.{◌≡◌, ◌⊎◌, inr, ◌∙◌, ap, map}
+use Rattle.std.proofs.Common.{inr, ◌∙◌, ap, map}
 use Rattle.std.proofs.lemmas.Result.{IfOk-weaker}
 use Rattle.refresh_phase.specs.Kept.{as_built}
 use Rattle.rank_step.specs.declared.keeping.RankBuilt.{RankBuilt}

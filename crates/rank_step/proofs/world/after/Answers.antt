@@ -1,4 +1,4 @@
-use Rattle.std.proofs.Common.{◌∙◌, ap}
+use Rattle.std.proofs.Common.{◌∙◌}
 use Rattle.rank_step.specs.Told.{text_with}
 use Rattle.rank_step.proofs.StepLemmas.{steps_on}
 use Rattle.rank_step.proofs.world.after.Goals as goal

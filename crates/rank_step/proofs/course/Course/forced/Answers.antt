@@ -1,4 +1,4 @@
-use Rattle.std.proofs.Common.{◌≡◌, ℕ, Bool, true, false, List, map, sym, ◌∙◌, ap, subst}
+use Rattle.std.proofs.Common.{Bool, true, false, List, map, sym, ◌∙◌, ap, subst}
 use Rattle.std.specs.Prelude.{IfOk, IfErr}
 use Rattle.pf_model.specs.Particle.{Particle}
 use Rattle.rank_step.specs.declared.forces.Taken.{Taken}

@@ -1,8 +1,8 @@
-use Rattle.std.proofs.Common.{List, ℕ, ◌+◌, ◌∙◌, Option, ap, sym, subst, map, arith}
+use Rattle.std.proofs.Common.{List, ℕ, ◌+◌, ◌∙◌, ap, sym, subst, map, arith}
 use Rattle.std.proofs.lemmas.Result.{err_from_is_err_and}
 use Rattle.run_model.specs.Force.{first_given}
 use Rattle.run_model.specs.Run.{kicked_again, kick_fault}
-use Rattle.run_model.specs.Answers.{StopsAt, of_phase}
+use Rattle.run_model.specs.Answers.{of_phase}
 use Rattle.run_model.specs.declared.fault.StepFault.TheVariants.{Numeric}
 use Rattle.rank_step.specs.LastBuild.{IsLastFor}
 use Rattle.rank_step.proofs.StepLemmas as steps

@@ -1,12 +1,11 @@
-use Rattle.std.proofs.Common.{◌≡◌, ◌+◌, ℕ, List, ◌∙◌, sym, ap, subst, map}
-use Rattle.std.specs.List.Sorted.{IsStrictlyIncreasing}
+use Rattle.std.proofs.Common.{◌≡◌, ◌+◌, ℕ, List, ◌∙◌, sym, subst, map}
 use Rattle.std.proofs.lemmas.Result.{IfOk-weaker}
 use Rattle.pf_model.specs.Particle.{Particle}
 use Rattle.run_model.specs.Run.{WithForces}
 use Rattle.rank_step.specs.declared.forces.Taken.{Taken}
 use Rattle.rank_step.specs.LastBuild.{IsLastFor}
 use Rattle.rank_step.specs.World.{IsSound}
-use Rattle.rank_step.proofs.StepLemmas.{are_bodies, both_ok, build_before, ids_ascend, read_at_start, sound_after}
+use Rattle.rank_step.proofs.StepLemmas.{are_bodies, both_ok, ids_ascend, sound_after}
 use Rattle.rank_step.proofs.course.Course.taken.Goals as goal
 
 pub first-requires-clause-particles : goal.first-requires-clause-particles
