@@ -1,6 +1,7 @@
 mod Collecting
 mod Coming
 mod Delivery
+mod Exchanged
 mod Handing
 mod Opened
 mod OtherRanks

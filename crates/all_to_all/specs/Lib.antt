@@ -1,4 +1,5 @@
 pub mod Arrivals
+pub mod Exchanging
 pub mod Handed
 pub mod Incoming
 pub mod Laws

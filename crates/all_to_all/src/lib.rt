@@ -12,4 +12,4 @@ mod tokens;
 pub use laws::each_other_sent_one;
 pub use opening::open;
 pub use post::Post;
-pub use tokens::{no_tokens, tokens_for};
+pub use tokens::{no_tokens, tokens_for, with_tokens};

@@ -1,6 +1,7 @@
-ghost use Rattle.std.specs.Prelude.{◌≡◌, ◌+◌, ◌<◌, map, IfOk, OnOk, vec_len};
+ghost use Rattle.std.specs.Prelude.{◌≡◌, ◌+◌, ◌<◌, length, map, IfOk, OnOk, vec_len};
 ghost use Rattle.std.specs.List.{range_with_len};
 ghost use Rattle.all_to_all.specs.Posts.{state_of, fresh_state, ArePostsOf};
+ghost use Rattle.all_to_all.specs.Exchanging.{EachByRank, IsFresh};
 ghost use Rattle.all_to_all.specs.Opening.{IsOpenTo, IsHandedOut, IsColumnOf};
 
 use crate::incoming::Incoming;
@@ -34,6 +35,9 @@ pub fn open<M: Named + Drop>(
     ensures of_inboxes { IfOk result (λ r. ArePostsOf M.source M.target M.has_terms r.0.items r.1.items) }
     ensures fresh { IfOk result (λ r. map state_of r.1.items
         ≡ map (λ rank. fresh_state rank ranks) (range_with_len 0 ranks)) }
+    ensures posts { IfOk result (λ r. length r.1.items ≡ ranks) }
+    ensures each { IfOk result (λ r.
+        EachByRank (IsFresh M.source M.target M.has_terms r.0.items) r.1.items) }
 {
     let mut opening = Opening {
         inboxes: Vec::with_capacity(alloc, ranks as usize)?,

@@ -1,8 +1,10 @@
 ghost use Rattle.std.specs.Prelude.{◌≡◌, ◌++◌, ◌+◌, [], length, map, flat_map, All, OnOk, IfOk, vec_len};
 ghost use Rattle.std.specs.List.{range_with_len};
 ghost use Rattle.all_to_all.specs.Posts.{state_of, IsPostOf, ArePostsOf};
+ghost use Rattle.all_to_all.specs.Exchanging.{HaveSentParcels, CanSettleParcels};
 ghost use Rattle.all_to_all.specs.Handed.{EachHasTokens, HasSentToAll, all_carried, sent_for, with_sent};
 
+use crate::laws::each_other_sent_one;
 use crate::outgoing::Token;
 use crate::post::Post;
 use let_inbox::{Inbox, Named, Spent, others_are_the_sources, others_grow, others_stand_in_turn};
@@ -30,6 +32,24 @@ pub fn tokens_for<M: Named + Drop>(
         post.hand_over(alloc, inboxes, &mut lists)?;
     }
     Ok(lists)
+}
+
+/// The posts when each rank has sent each other one parcel, and the tokens of the parcels that were sent to each.
+pub fn with_tokens<M: Named + Drop>(
+    alloc: Global,
+    inboxes: &[Inbox<M>],
+    mut posts: Vec<Post<M>>,
+) -> Result<(Vec<Post<M>>, Vec<Vec<Spent<M>>>), OutOfMemory>
+    requires counted { length posts.items ≡ length inboxes.now }
+    requires sent { HaveSentParcels M.source M.target M.has_terms inboxes.now posts.items }
+    ensures posts { IfOk result (λ b. length b.0.items ≡ length inboxes.now) }
+    ensures tokens { IfOk result (λ b. length b.1.items ≡ length inboxes.now) }
+    ensures settle { IfOk result (λ b.
+        CanSettleParcels M.source M.target M.has_terms inboxes.now posts.items b.0.items b.1.items) }
+{
+    each_other_sent_one::<M>();
+    let tokens = tokens_for(alloc, inboxes, &mut posts)?;
+    Ok((posts, tokens))
 }
 
 /// For each rank a list without tokens, to which those of all posts are handed over, by rank.

@@ -1,5 +1,5 @@
 -- How present values of essential trees go from rank to rank.
-use Rattle.std.specs.Prelude.{◌≡◌, ℕ, ◌<◌, List, [], length, map, slice_index_or, ⊤}
+use Rattle.std.specs.Prelude.{ℕ, List, map, ⊤}
 use Rattle.std.specs.Prelude.{Vec}
 use Rattle.std.specs.Global.{Global}
 use Rattle.pf_model.specs.Criterion.{Criterion}
@@ -9,8 +9,8 @@ use Rattle.let_inbox.specs.declared.inbox.Inbox.{Inbox}
 use Rattle.let_inbox.specs.declared.tokens.Spent.{Spent}
 use Rattle.let_inbox.specs.Sources.{others}
 use Rattle.all_to_all.specs.declared.post.Post.{Post}
-use Rattle.all_to_all.specs.Handed.{AreTokensFor, all_carried}
-use Rattle.all_to_all.specs.Posts.{state_of, fresh_state, IsPostOf}
+use Rattle.all_to_all.specs.Exchanging as posts
+use Rattle.all_to_all.specs.Posts.{IsPostOf}
 use Rattle.list_reuse.specs.Keeping.{values_from}
 use Rattle.list_reuse.specs.Refreshing.{Renewal}
 use Rattle.refresh_phase.specs.Kept.{seen_from}
@@ -27,9 +27,8 @@ abbrev pub IsRefreshPost : List (Inbox Renewal) → Post Renewal → Type 0
 IsRefreshPost inboxes p = IsPostOf source_of target_of (λ _. ⊤) inboxes p
 
 -- the post of a rank that has sent and received nothing
-pub record IsFresh (inboxes : List (Inbox Renewal)) (rank : ℕ) (p : Post Renewal) : Type 0 where
-  pub of_inboxes : IsRefreshPost inboxes p
-  pub fresh : state_of p ≡ fresh_state rank (length inboxes)
+abbrev pub IsFresh : List (Inbox Renewal) → ℕ → Post Renewal → Type 0
+IsFresh inboxes rank p = posts.IsFresh source_of target_of (λ _. ⊤) inboxes rank p
 
 module _ (t : Criterion) (g : Division) (built now : List Particle) where
   -- the refresh that a rank sends another: the items of the essential tree of the build, as they are now
@@ -45,25 +44,13 @@ module _ (t : Criterion) (g : Division) (built now : List Particle) where
   refreshes_received rank ranks = map (λ src. refresh_sent src rank) (others rank ranks)
 
   -- the post of a rank that has sent each other rank its refresh
-  pub record HasSent (inboxes : List (Inbox Renewal)) (rank : ℕ) (p : Post Renewal) : Type 0 where
-    pub of_inboxes : IsRefreshPost inboxes p
-    pub number : (state_of p).rank ≡ rank
-    pub unsent : (state_of p).unsent ≡ []
-    pub sent : (state_of p).sent ≡ refreshes_sent rank (length inboxes)
-    pub settled : (state_of p).settled ≡ []
+  abbrev pub HasSent : List (Inbox Renewal) → ℕ → Post Renewal → Type 0
+  HasSent inboxes rank p = posts.HasSent source_of target_of (λ _. ⊤) refresh_sent inboxes rank p
 
   -- the post of a rank, and the tokens of the refreshes that were sent to it
-  pub record CanSettle (inboxes : List (Inbox Renewal)) (rank : ℕ) (p : Post Renewal) (tokens : List (Spent Renewal))
-      : Type 0 where
-    pub of_inboxes : IsRefreshPost inboxes p
-    pub number : (state_of p).rank ≡ rank
-    pub settled : (state_of p).settled ≡ []
-    pub tokens_are : AreTokensFor source_of inboxes rank tokens
-    pub carried : all_carried tokens ≡ refreshes_received rank (length inboxes)
+  abbrev pub CanSettle : List (Inbox Renewal) → ℕ → Post Renewal → List (Spent Renewal) → Type 0
+  CanSettle inboxes rank p tokens = posts.CanSettle source_of target_of (λ _. ⊤) refresh_sent inboxes rank p tokens
 
   -- so each rank
-  pub record CanAllSettle (inboxes : List (Inbox Renewal)) (posts : List (Post Renewal))
-      (tokens : List (Vec (Spent Renewal) Global)) : Type 0 where
-    pub each : (rank : ℕ) (p : Post Renewal) (s : Vec (Spent Renewal) Global) →
-        rank < length posts →
-        CanSettle inboxes rank (slice_index_or posts rank p) (slice_index_or tokens rank s).items
+  abbrev pub CanAllSettle : List (Inbox Renewal) → List (Post Renewal) → List (Vec (Spent Renewal) Global) → Type 0
+  CanAllSettle inboxes ps tokens = posts.CanAllSettle source_of target_of (λ _. ⊤) refresh_sent inboxes ps tokens

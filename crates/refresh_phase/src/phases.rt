@@ -14,7 +14,7 @@ ghost use Rattle.refresh_phase.specs.Renewing.{CanRenew, IsKeptSince, moved_to};
 use crate::kept_rank::KeptRank;
 use crate::moving::{Mover, Shared, send};
 use crate::renewing::{Renewer, settle};
-use all_to_all::{Post, each_other_sent_one, open, tokens_for};
+use all_to_all::{Post, open};
 use let_inbox::{Inbox, Spent};
 use list_reuse::Refresh;
 use pf_io::{Gate, Phase};
@@ -83,7 +83,7 @@ fn with_tokens<T: Terms>(
     alloc: Global,
     inboxes: &[Inbox<Refresh>],
     now: &[Body],
-    mut posts: Vec<Post<Refresh>>,
+    posts: Vec<Post<Refresh>>,
 ) -> Result<(Vec<Post<Refresh>>, Vec<Vec<Spent<Refresh>>>), OutOfMemory>
     requires counted { length posts.items ≡ length inboxes.now }
     requires sent { EachByRank (HasSent T.theta T.grid T.particles now.now inboxes.now) posts.items }
@@ -91,8 +91,7 @@ fn with_tokens<T: Terms>(
     ensures tokens { IfOk result (λ b. length b.1.items ≡ length inboxes.now) }
     ensures settle { IfOk result (λ b. CanAllSettle T.theta T.grid T.particles now.now inboxes.now b.0.items b.1.items) }
 {
-    each_other_sent_one::<Refresh>();
-    let tokens = tokens_for(alloc, inboxes, &mut posts)?;
+    let (posts, tokens) = all_to_all::with_tokens(alloc, inboxes, posts)?;
     Ok((posts, tokens))
 }
 

@@ -1,11 +1,9 @@
 -- What the ranks have from phase to phase.
-use Rattle.std.proofs.Common.{◌≡◌, ℕ, ◌<◌, ◌≤◌, ◌==◌, List, [], ◌∷◌, length, get_or, map, nat_eq, Bool, Some, Result, Ok, Err, refl, sym, ◌∙◌, ap, subst, arith}
+use Rattle.std.proofs.Common.{◌≡◌, ℕ, ◌<◌, ◌≤◌, List, [], ◌∷◌, length, get_or, map, nat_eq, Some, Result, Ok, Err, sym, ◌∙◌, ap, subst, arith}
 use Rattle.std.specs.Prelude.{IfOk, IfSome, Vec}
 use Rattle.std.specs.Global.{Global}
-use Rattle.std.specs.List.{All, filter, flat_map, range_with_len, zip}
-use Rattle.std.proofs.lemmas.List.{length-map, get_or-map, same_lists}
-use Rattle.std.proofs.lemmas.List.Folds.{flat_map-map}
-use Rattle.std.proofs.lemmas.List.FromFn.{get_or-map-range_with_len, get_or-range_with_len, length-map-range_with_len, length-range_with_len}
+use Rattle.std.specs.List.{All, zip}
+use Rattle.std.proofs.lemmas.List.{length-map, get_or-map}
 use Rattle.std.proofs.lemmas.List.Sorted.{IsPermutation-sym, length_permutation}
 use Rattle.std.proofs.lemmas.List.Sums.{count_by-le-length, length-filter}
 use Rattle.pf_model.specs.declared.limits.TheConstants.{MOST_PARTICLES}
@@ -19,20 +17,14 @@ use Rattle.morton_tree.specs.Groups.{IsGroup}
 use Rattle.group_lists.specs.Gathering.{Gathering, IsGroupOf}
 use Rattle.let_inbox.specs.declared.inbox.Inbox.{Inbox}
 use Rattle.let_inbox.specs.declared.tokens.Spent.{Spent}
-use Rattle.let_inbox.specs.Sources.{others}
 use Rattle.all_to_all.specs.declared.post.Post.{Post}
-use Rattle.all_to_all.specs.Handed.{AreTokensFor, EachHasTokens, HasSentToAll, all_carried, sent_for}
-use Rattle.all_to_all.specs.Laws.{EachOtherSentOne}
-use Rattle.all_to_all.specs.Posts.{PostState, state_of, fresh_state, ArePostsOf}
 use Rattle.essential_tree.specs.declared.tree_parcel.TreeParcel.{TreeParcel}
 use Rattle.tree_phase.specs.declared.arrivals.Arrivals.{Arrivals}
 use Rattle.tree_phase.specs.declared.gathering.Receiver.{Receiver}
 use Rattle.tree_phase.specs.declared.growing.Grower.{Grower}
 use Rattle.tree_phase.specs.declared.rank_tree.RankTree.{RankTree}
-use Rattle.tree_phase.specs.Exchange.{tree_source, tree_target, is_essential, IsFresh, HasSent, HasGrown, CanAllSettle, Waits, EndsWith, HasEnded, waiting, received}
-use Rattle.tree_phase.specs.Parcels.{tree_sent, trees_sent, trees_received}
+use Rattle.tree_phase.specs.Exchange.{HasSent, HasGrown, CanAllSettle, Waits, EndsWith, HasEnded, waiting, received}
 use Rattle.tree_phase.specs.Trees.{EachByRank, AreArrivals, AreGathersOver, AreGroupsOf, AreRankTrees, AreTreesOf, HaveGathered, HaveSentAll, IsRankTree, IsTreeOf}
-use Rattle.tree_phase.proofs.SendLemmas.{targets_sent}
 use Rattle.tree_phase.proofs.ZipLemmas.{length_zipped, zipped_at}
 
 pub if_both : {A E : Type 0} (r : Result A E) (P Q S : A → Type 0) → ((a : A) → P a → Q a → S a) → IfOk r P → IfOk r Q → IfOk r S
@@ -91,116 +83,6 @@ have_gathered limit g js trees gathers are all = record {
 }
 
 module _ (X : Type 0) (t : Criterion) (g : Division) (js : List Particle) where
-  -- ---- posts that are opened
-
-  module _ (inboxes : List (Inbox (TreeParcel X))) (posts : List (Post (TreeParcel X))) (n : ℕ) (counted : length inboxes ≡ n)
-      (are : ArePostsOf (tree_source {X = X}) (tree_target {X = X}) (is_essential t g js) inboxes posts) where
-    pub posts_counted : length posts ≡ n
-    posts_counted =
-        sym (length-map posts (λ (p : Post (TreeParcel X)). (state_of p).rank)) ∙ ap length are.ranks ∙ length-range_with_len 0 (length inboxes) ∙ counted
-
-    pub posts_fresh : map state_of posts ≡ map (λ rank. fresh_state rank n) (range_with_len 0 n) → EachByRank (IsFresh t g js inboxes) posts
-    posts_fresh fresh rank x within = record {
-      of_inboxes = are.each rank x within;
-      fresh =
-          (let long = posts_counted in
-          sym (get_or-map state_of posts rank x (state_of x) within)
-          ∙ ap (λ (l : List (PostState (TreeParcel X))). get_or l rank (state_of x)) fresh
-          ∙ get_or-map-range_with_len (λ r. fresh_state r n) 0 n rank rank (state_of x) (omega arith) (omega arith)
-          ∙ ap (fresh_state rank) (sym counted));
-    }
-
-  -- ---- posts that have sent
-
-  module _ (inboxes : List (Inbox (TreeParcel X))) (posts : List (Post (TreeParcel X))) (counted : length posts ≡ length inboxes)
-      (sent : EachByRank (HasSent t g js inboxes) posts) where
-    pub are_posts : ArePostsOf (tree_source {X = X}) (tree_target {X = X}) (is_essential t g js) inboxes posts
-    are_posts = record {
-      each = λ k d within. (sent k d within).of_inboxes;
-      ranks =
-          same_lists (map (λ (p : Post (TreeParcel X)). (state_of p).rank) posts) (range_with_len 0 (length inboxes))
-          (length-map posts (λ (p : Post (TreeParcel X)). (state_of p).rank) ∙ counted ∙ sym (length-range_with_len 0 (length inboxes)))
-          (λ k d within.
-          let inside : k < length posts = (let long = length-map posts (λ (p : Post (TreeParcel X)). (state_of p).rank) in omega arith) in
-          let p = some_of posts k inside in
-          get_or-map (λ (p : Post (TreeParcel X)). (state_of p).rank) posts k p d inside ∙ (sent k p inside).number
-          ∙ (let at = get_or-range_with_len 0 (length inboxes) k d (omega arith) in let e : k ≡ get_or (range_with_len 0 (length inboxes)) k d = omega arith in e));
-    }
-
-    pub have_sent : All (HasSentToAll (tree_target {X = X}) (length inboxes)) posts
-    have_sent k d within =
-        let here = sent k d within in
-        record {
-          sent_to =
-              ap (map (tree_target {X = X})) here.sent ∙ targets_sent X t g js k (length inboxes)
-              ∙ ap (λ (n : ℕ). others n (length inboxes)) (sym here.number);
-          none_left = here.unsent;
-        }
-
-    abbrev for_rank : ℕ → TreeParcel X → Bool
-    for_rank rank m = tree_target {X = X} m == rank
-
-    all_sent : map (λ (p : Post (TreeParcel X)). (state_of p).sent) posts ≡ map (λ q. trees_sent {X = X} t g js q (length inboxes)) (range_with_len 0 (length inboxes))
-    all_sent =
-        same_lists (map (λ (p : Post (TreeParcel X)). (state_of p).sent) posts) (map (λ q. trees_sent {X = X} t g js q (length inboxes)) (range_with_len 0 (length inboxes)))
-        (length-map posts (λ (p : Post (TreeParcel X)). (state_of p).sent) ∙ counted ∙ sym (length-map-range_with_len (λ q. trees_sent {X = X} t g js q (length inboxes)) 0 (length inboxes)))
-        (λ k d within.
-        let inside : k < length posts = (let long = length-map posts (λ (p : Post (TreeParcel X)). (state_of p).sent) in omega arith) in
-        let p = some_of posts k inside in
-        get_or-map (λ (p : Post (TreeParcel X)). (state_of p).sent) posts k p d inside ∙ (sent k p inside).sent
-        ∙ sym (get_or-map-range_with_len (λ q. trees_sent {X = X} t g js q (length inboxes)) 0 (length inboxes) k k d (omega arith) (omega arith)))
-
-    carried_for : EachOtherSentOne (tree_target {X = X}) → (rank : ℕ) → rank < length inboxes → flat_map (sent_for (tree_target {X = X}) rank) posts ≡ trees_received t g js rank (length inboxes)
-    carried_for law rank within =
-        sym (flat_map-map (filter (for_rank rank)) (λ (p : Post (TreeParcel X)). (state_of p).sent) posts)
-        ∙ ap (flat_map (filter (for_rank rank))) all_sent
-        ∙ flat_map-map (filter (for_rank rank)) (λ q. trees_sent {X = X} t g js q (length inboxes)) (range_with_len 0 (length inboxes))
-        ∙ law (tree_sent t g js) (length inboxes) rank (λ q p. refl) within
-
-    module _ (law : EachOtherSentOne (tree_target {X = X})) (after : List (Post (TreeParcel X))) (tokens : List (Vec (Spent (TreeParcel X)) Global))
-        (are : ArePostsOf (tree_source {X = X}) (tree_target {X = X}) (is_essential t g js) inboxes after)
-        (states : map state_of after ≡ map (λ (p : Post (TreeParcel X)). record (state_of p) { sent = [] }) posts)
-        (each : EachHasTokens (tree_source {X = X}) inboxes (length inboxes) (map (λ l. l.items) tokens))
-        (carried : map (λ l. all_carried l.items) tokens ≡ map (λ rank. flat_map (sent_for (tree_target {X = X}) rank) posts) (range_with_len 0 (length inboxes))) where
-      pub after_counted : length after ≡ length inboxes
-      after_counted =
-          sym (length-map after state_of) ∙ ap length states ∙ length-map posts (λ (p : Post (TreeParcel X)). record (state_of p) { sent = [] }) ∙ counted
-
-      pub tokens_counted : length tokens ≡ length inboxes
-      tokens_counted = sym (length-map tokens (λ l. l.items)) ∙ each.all
-
-      state_at : (rank : ℕ) (p q : Post (TreeParcel X)) → rank < length posts → state_of (get_or after rank p) ≡ record (state_of (get_or posts rank q)) { sent = [] }
-      state_at rank p q within =
-          let long = after_counted in
-          let inside : rank < length after = omega arith in
-          sym (get_or-map state_of after rank p (state_of p) inside)
-          ∙ ap (λ (l : List (PostState (TreeParcel X))). get_or l rank (state_of p)) states
-          ∙ get_or-map (λ (p : Post (TreeParcel X)). record (state_of p) { sent = [] }) posts rank q (state_of p) within
-
-      pub can_settle : CanAllSettle t g js inboxes after tokens
-      can_settle = record {
-        each = λ rank p s within.
-            (let long = after_counted in
-            let many = tokens_counted in
-            let before : rank < length posts = omega arith in
-            let inside : rank < length inboxes = omega arith in
-            let there : rank < length tokens = omega arith in
-            let q = some_of posts rank before in
-            let state = state_at rank p q before in
-            let had = sent rank q before in
-            record {
-              of_inboxes = are.each rank p within;
-              number = ap (λ (v : PostState (TreeParcel X)). v.rank) state ∙ had.number;
-              settled = ap (λ (v : PostState (TreeParcel X)). v.settled) state ∙ had.settled;
-              tokens_are = subst (AreTokensFor (tree_source {X = X}) inboxes rank) (get_or-map (λ l. l.items) tokens rank s [] there) (each.each rank inside);
-              carried =
-                  sym (get_or-map (λ (l : Vec (Spent (TreeParcel X)) Global). all_carried l.items) tokens rank s [] there)
-                  ∙ ap (λ (l : List (List (TreeParcel X))). get_or l rank []) carried
-                  ∙ get_or-map-range_with_len (λ r. flat_map (sent_for (tree_target {X = X}) r) posts) 0 (length inboxes) rank rank [] inside (omega arith)
-                  ∙ carried_for law rank inside;
-            });
-      }
-
   -- ---- ranks that have grown their trees
 
   module _ (limit : ℕ) (inboxes : List (Inbox (TreeParcel X))) (growers : List (Grower X)) (posts : List (Post (TreeParcel X))) (trees : List RankTree)

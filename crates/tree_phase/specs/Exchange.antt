@@ -1,5 +1,5 @@
 -- How the essential trees go from rank to rank.
-use Rattle.std.specs.Prelude.{◌≡◌, ℕ, ◌<◌, List, [], length, slice_index_or}
+use Rattle.std.specs.Prelude.{◌≡◌, ℕ, List, slice_index_or}
 use Rattle.std.specs.Prelude.{Vec}
 use Rattle.std.specs.Global.{Global}
 use Rattle.pf_model.specs.Criterion.{Criterion}
@@ -11,14 +11,14 @@ use Rattle.essential_tree.specs.declared.tree_parcel.TreeParcel.{TreeParcel}
 use Rattle.let_inbox.specs.declared.inbox.Inbox.{Inbox}
 use Rattle.let_inbox.specs.declared.tokens.Spent.{Spent}
 use Rattle.all_to_all.specs.declared.post.Post.{Post}
-use Rattle.all_to_all.specs.Handed.{AreTokensFor, all_carried}
-use Rattle.all_to_all.specs.Posts.{state_of, fresh_state, IsPostOf}
+use Rattle.all_to_all.specs.Exchanging as posts
+use Rattle.all_to_all.specs.Posts.{IsPostOf}
 use Rattle.tree_phase.specs.declared.gathering.Receiver.{Receiver}
 use Rattle.tree_phase.specs.declared.gathering.Receiver.TheVariants.{Waiting, Received, Refused}
 use Rattle.tree_phase.specs.declared.rank_tree.RankTree.{RankTree}
 use Rattle.group_lists.specs.Gathering.{Gathering}
 use Rattle.tree_phase.specs.declared.arrivals.Arrivals.{Arrivals}
-use Rattle.tree_phase.specs.Parcels.{trees_sent, trees_received}
+use Rattle.tree_phase.specs.Parcels.{tree_sent}
 use Rattle.tree_phase.specs.Trees.{HaveSentAll, IsArrivalAt, IsTreeOf, gathered_over}
 
 module _ {X : Type 0} where
@@ -38,17 +38,12 @@ module _ {X : Type 0} (t : Criterion) (g : Division) (js : List Particle) where
   IsTreePost inboxes p = IsPostOf tree_source tree_target is_essential inboxes p
 
   -- the post of a rank that has sent and received nothing
-  pub record IsFresh (inboxes : List (Inbox (TreeParcel X))) (rank : ℕ) (p : Post (TreeParcel X)) : Type 0 where
-    pub of_inboxes : IsTreePost inboxes p
-    pub fresh : state_of p ≡ fresh_state rank (length inboxes)
+  abbrev pub IsFresh : List (Inbox (TreeParcel X)) → ℕ → Post (TreeParcel X) → Type 0
+  IsFresh inboxes rank p = posts.IsFresh tree_source tree_target is_essential inboxes rank p
 
   -- the post of a rank that has sent each other rank its essential tree
-  pub record HasSent (inboxes : List (Inbox (TreeParcel X))) (rank : ℕ) (p : Post (TreeParcel X)) : Type 0 where
-    pub of_inboxes : IsTreePost inboxes p
-    pub number : (state_of p).rank ≡ rank
-    pub unsent : (state_of p).unsent ≡ []
-    pub sent : (state_of p).sent ≡ trees_sent t g js rank (length inboxes)
-    pub settled : (state_of p).settled ≡ []
+  abbrev pub HasSent : List (Inbox (TreeParcel X)) → ℕ → Post (TreeParcel X) → Type 0
+  HasSent inboxes rank p = posts.HasSent tree_source tree_target is_essential (tree_sent t g js) inboxes rank p
 
   -- so, and it has the tree of what it owns, and keeps what it sent
   pub record HasGrown (limit : ℕ) (inboxes : List (Inbox (TreeParcel X))) (rank : ℕ) (p : Post (TreeParcel X))
@@ -58,20 +53,15 @@ module _ {X : Type 0} (t : Criterion) (g : Division) (js : List Particle) where
     pub kept : HaveSentAll t g js rank r
 
   -- the post of a rank, and the tokens of the trees that were sent to it
-  pub record CanSettle (inboxes : List (Inbox (TreeParcel X))) (rank : ℕ) (p : Post (TreeParcel X))
-      (tokens : List (Spent (TreeParcel X))) : Type 0 where
-    pub of_inboxes : IsTreePost inboxes p
-    pub number : (state_of p).rank ≡ rank
-    pub settled : (state_of p).settled ≡ []
-    pub tokens_are : AreTokensFor tree_source inboxes rank tokens
-    pub carried : all_carried tokens ≡ trees_received t g js rank (length inboxes)
+  abbrev pub CanSettle : List (Inbox (TreeParcel X)) → ℕ → Post (TreeParcel X) → List (Spent (TreeParcel X)) → Type 0
+  CanSettle inboxes rank p tokens =
+      posts.CanSettle tree_source tree_target is_essential (tree_sent t g js) inboxes rank p tokens
 
   -- so each rank
-  pub record CanAllSettle (inboxes : List (Inbox (TreeParcel X))) (posts : List (Post (TreeParcel X)))
-      (tokens : List (Vec (Spent (TreeParcel X)) Global)) : Type 0 where
-    pub each : (rank : ℕ) (p : Post (TreeParcel X)) (s : Vec (Spent (TreeParcel X)) Global) →
-        rank < length posts →
-        CanSettle inboxes rank (slice_index_or posts rank p) (slice_index_or tokens rank s).items
+  abbrev pub CanAllSettle :
+      List (Inbox (TreeParcel X)) → List (Post (TreeParcel X)) → List (Vec (Spent (TreeParcel X)) Global) → Type 0
+  CanAllSettle inboxes ps tokens =
+      posts.CanAllSettle tree_source tree_target is_essential (tree_sent t g js) inboxes ps tokens
 
   -- a rank before the phase Gather
   abbrev pub Waits : List (Inbox (TreeParcel X)) → ℕ → Receiver X → Type 0

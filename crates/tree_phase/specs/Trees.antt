@@ -1,5 +1,5 @@
 -- The tree of each rank, and what it gathers.
-use Rattle.std.specs.Prelude.{◌≡◌, ℕ, ◌+◌, ◌*◌, ◌<◌, ◌≤◌, List, length, map, flat_map, All}
+use Rattle.std.specs.Prelude.{◌≡◌, ℕ, ◌+◌, ◌*◌, ◌≤◌, List, length, map, flat_map, All}
 use Rattle.std.specs.Prelude.{IsPermutation, slice_index_or}
 use Rattle.std.specs.List.{AllZip}
 use Rattle.pf_model.specs.declared.entry.Entry.{Entry}
@@ -24,10 +24,7 @@ use Rattle.tree_phase.specs.declared.rank_lists.RankLists.{RankLists}
 use Rattle.tree_phase.specs.declared.rank_tree.RankTree.{RankTree}
 use Rattle.tree_phase.specs.Counts.{counts_of}
 use Rattle.tree_phase.specs.Parcels.{AreSentTo}
-
--- what holds of each rank's, by number
-abbrev pub EachByRank : {X : Type 0} → (ℕ → X → Type 0) → List X → Type 0
-EachByRank P xs = (rank : ℕ) (x : _) → rank < length xs → P rank (slice_index_or xs rank x)
+pub use Rattle.all_to_all.specs.Exchanging.{EachByRank}
 
 -- each rank has what it owns, in the order of the particles
 pub record HaveOwn (g : Division) (js : List Particle) (ranks : List Holding) : Type 0 where

@@ -13,7 +13,7 @@ use crate::gathering::{Gathering, Receiver, receive};
 use crate::growing::{Grower, Growing, grow};
 use crate::rank_gather::RankGather;
 use crate::rank_tree::RankTree;
-use all_to_all::{Post, each_other_sent_one, open, tokens_for};
+use all_to_all::{Post, open};
 use essential_tree::TreeParcel;
 use exchange::RankState;
 use let_inbox::{Inbox, Spent};
@@ -102,7 +102,7 @@ fn open_all<T: Terms>(
 fn with_tokens<T: Terms>(
     alloc: Global,
     inboxes: &[Inbox<TreeParcel<T>>],
-    mut posts: Vec<Post<TreeParcel<T>>>,
+    posts: Vec<Post<TreeParcel<T>>>,
 ) -> Result<(Vec<Post<TreeParcel<T>>>, Vec<Vec<Spent<TreeParcel<T>>>>), OutOfMemory>
     requires counted { length posts.items ≡ length inboxes.now }
     requires sent { EachByRank (HasSent T.theta T.grid T.particles inboxes.now) posts.items }
@@ -110,8 +110,7 @@ fn with_tokens<T: Terms>(
     ensures tokens { IfOk result (λ b. length b.1.items ≡ length inboxes.now) }
     ensures settle { IfOk result (λ b. CanAllSettle T.theta T.grid T.particles inboxes.now b.0.items b.1.items) }
 {
-    each_other_sent_one::<TreeParcel<T>>();
-    let tokens = tokens_for(alloc, inboxes, &mut posts)?;
+    let (posts, tokens) = all_to_all::with_tokens(alloc, inboxes, posts)?;
     Ok((posts, tokens))
 }
 

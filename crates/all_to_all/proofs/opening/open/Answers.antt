@@ -7,6 +7,7 @@ use Rattle.let_inbox.specs.declared.inbox.Inbox.{Inbox}
 use Rattle.all_to_all.specs.declared.opening.Column.{Column}
 use Rattle.all_to_all.specs.Opening.{IsColumnOf, IsHandedOut, IsOpenTo}
 use Rattle.all_to_all.proofs.Opened.{none_handed, column_last, all_handed}
+use Rattle.all_to_all.proofs.Exchanged.{posts_counted, posts_fresh}
 use Rattle.all_to_all.proofs.opening.open.Goals as goal
 
 pub loop-column-init : goal.loop-column-init
@@ -69,3 +70,14 @@ returns-clause-fresh g c =
     let none = c.in_default.ensures.cases in
     let ok = c.loop-column.opening.columns.ok in
     (all_handed g.M.Named.source g.M.Named.target g.M.Named.has_terms c.args.ranks _ c.loop-column.opening.inboxes.items c.loop-column.opening.posts.items (omega arith) c.loop-column.invariant.count c.loop-column.invariant.handed).1
+
+pub returns-clause-posts : goal.returns-clause-posts
+returns-clause-posts g c =
+    let none = c.in_default.ensures.cases in
+    let ok = c.loop-column.opening.columns.ok in
+    posts_counted g.M.Named.source g.M.Named.target g.M.Named.has_terms c.loop-column.opening.inboxes.items c.loop-column.opening.posts.items c.args.ranks c.loop-column.invariant.count (returns-clause-of_inboxes g c)
+
+pub returns-clause-each : goal.returns-clause-each
+returns-clause-each g c =
+    posts_fresh g.M.Named.source g.M.Named.target g.M.Named.has_terms c.loop-column.opening.inboxes.items c.loop-column.opening.posts.items c.args.ranks c.loop-column.invariant.count (returns-clause-of_inboxes g c)
+    (returns-clause-fresh g c)

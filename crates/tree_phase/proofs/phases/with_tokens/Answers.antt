@@ -1,54 +1,13 @@
-use Rattle.std.proofs.Common.{◌≡◌, List, length, sym, ◌∙◌, ap, subst}
-use Rattle.std.specs.Vec.{with_items}
-use Rattle.std.proofs.lemmas.List.{with_items_is}
-use Rattle.all_to_all.specs.declared.post.Post.{Post}
-use Rattle.essential_tree.specs.declared.tree_parcel.TreeParcel.{TreeParcel}
-use Rattle.tree_phase.specs.Exchange.{HasSent, CanAllSettle}
-use Rattle.tree_phase.specs.Trees.{EachByRank}
-use Rattle.tree_phase.proofs.PhaseLemmas.{are_posts, have_sent, after_counted, tokens_counted, can_settle}
+use Rattle.std.proofs.Common.{refl}
+use Rattle.tree_phase.specs.Parcels.{tree_sent}
 use Rattle.tree_phase.proofs.phases.with_tokens.Goals as goal
 
-pub tokens_for-requires-clause-of_inboxes : goal.tokens_for-requires-clause-of_inboxes
-tokens_for-requires-clause-of_inboxes g c =
-    let given = c.deref_mut.ensures.value in
-    are_posts g.row.T.Denot g.T.Terms.theta g.T.Terms.grid g.T.Terms.particles c.args.inboxes.now c.deref_mut.result.now (ap length given ∙ c.requires.counted)
-    (subst (EachByRank (HasSent g.T.Terms.theta g.T.Terms.grid g.T.Terms.particles c.args.inboxes.now)) (sym given) c.requires.sent)
-
-pub tokens_for-requires-clause-sent : goal.tokens_for-requires-clause-sent
-tokens_for-requires-clause-sent g c =
-    let given = c.deref_mut.ensures.value in
-    have_sent g.row.T.Denot g.T.Terms.theta g.T.Terms.grid g.T.Terms.particles c.args.inboxes.now c.deref_mut.result.now (ap length given ∙ c.requires.counted)
-    (subst (EachByRank (HasSent g.T.Terms.theta g.T.Terms.grid g.T.Terms.particles c.args.inboxes.now)) (sym given) c.requires.sent)
-
-pub returns-clause-posts : goal.returns-clause-posts
-returns-clause-posts g c =
-    let given = c.deref_mut.ensures.value in
-    let after = c.tokens_for.new.posts in
-    let had = ap length given ∙ c.requires.counted in
-    let sent = subst (EachByRank (HasSent g.T.Terms.theta g.T.Terms.grid g.T.Terms.particles c.args.inboxes.now)) (sym given) c.requires.sent in
-    let many = after_counted g.row.T.Denot g.T.Terms.theta g.T.Terms.grid g.T.Terms.particles c.args.inboxes.now c.deref_mut.result.now had sent c.each_other_sent_one.ensures after c.in_ok-tokens.tokens.items
-    c.in_ok-tokens.ensures.of_inboxes c.in_ok-tokens.ensures.posts c.in_ok-tokens.ensures.tokens c.in_ok-tokens.ensures.carried in
-    let kept : (with_items c.args.posts after).items ≡ after = with_items_is c.args.posts after (many ∙ sym had ∙ c.deref_mut.ensures.len) in
-    ap length kept ∙ many
-
-pub returns-clause-tokens : goal.returns-clause-tokens
-returns-clause-tokens g c =
-    let given = c.deref_mut.ensures.value in
-    let after = c.tokens_for.new.posts in
-    let had = ap length given ∙ c.requires.counted in
-    let sent = subst (EachByRank (HasSent g.T.Terms.theta g.T.Terms.grid g.T.Terms.particles c.args.inboxes.now)) (sym given) c.requires.sent in
-    tokens_counted g.row.T.Denot g.T.Terms.theta g.T.Terms.grid g.T.Terms.particles c.args.inboxes.now c.deref_mut.result.now had sent c.each_other_sent_one.ensures after c.in_ok-tokens.tokens.items
-    c.in_ok-tokens.ensures.of_inboxes c.in_ok-tokens.ensures.posts c.in_ok-tokens.ensures.tokens c.in_ok-tokens.ensures.carried
+pub with_tokens-requires-clause-sent : goal.with_tokens-requires-clause-sent
+with_tokens-requires-clause-sent g c = (
+  tree_sent g.T.Terms.theta g.T.Terms.grid g.T.Terms.particles,
+  record { targets = λ q p. refl; each = c.requires.sent },
+)
 
 pub returns-clause-settle : goal.returns-clause-settle
 returns-clause-settle g c =
-    let given = c.deref_mut.ensures.value in
-    let after = c.tokens_for.new.posts in
-    let had = ap length given ∙ c.requires.counted in
-    let sent = subst (EachByRank (HasSent g.T.Terms.theta g.T.Terms.grid g.T.Terms.particles c.args.inboxes.now)) (sym given) c.requires.sent in
-    let many = after_counted g.row.T.Denot g.T.Terms.theta g.T.Terms.grid g.T.Terms.particles c.args.inboxes.now c.deref_mut.result.now had sent c.each_other_sent_one.ensures after c.in_ok-tokens.tokens.items
-    c.in_ok-tokens.ensures.of_inboxes c.in_ok-tokens.ensures.posts c.in_ok-tokens.ensures.tokens c.in_ok-tokens.ensures.carried in
-    let kept : (with_items c.args.posts after).items ≡ after = with_items_is c.args.posts after (many ∙ sym had ∙ c.deref_mut.ensures.len) in
-    subst (λ (l : List (Post (TreeParcel g.row.T.Denot))). CanAllSettle g.T.Terms.theta g.T.Terms.grid g.T.Terms.particles c.args.inboxes.now l c.in_ok-tokens.tokens.items) (sym kept)
-    (can_settle g.row.T.Denot g.T.Terms.theta g.T.Terms.grid g.T.Terms.particles c.args.inboxes.now c.deref_mut.result.now had sent c.each_other_sent_one.ensures after c.in_ok-tokens.tokens.items
-    c.in_ok-tokens.ensures.of_inboxes c.in_ok-tokens.ensures.posts c.in_ok-tokens.ensures.tokens c.in_ok-tokens.ensures.carried)
+    c.in_ok-posts.ensures.settle (tree_sent g.T.Terms.theta g.T.Terms.grid g.T.Terms.particles) (record { targets = λ q p. refl; each = c.requires.sent })
