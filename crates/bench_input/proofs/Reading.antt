@@ -1,5 +1,5 @@
 -- How the tokens of the benchmark's kernel spell its tree.
-use Rattle.std.proofs.Common.{◌≡◌, ℕ, zero, suc, ◌≤◌, Bool, true, false, ◌&&◌, refl, inl, inr, List, [], ◌∷◌, ◌++◌, length, take, fold, flat_map, length-append, ap, ◌∙◌, pos, arith}
+use Rattle.std.proofs.Common.{◌≡◌, ℕ, zero, suc, ◌≤◌, Bool, true, ◌&&◌, refl, inl, inr, List, [], ◌∷◌, ◌++◌, length, take, fold, flat_map, length-append, ap, ◌∙◌, pos, arith}
 use Rattle.std.specs.Prelude.{codes}
 use Rattle.std.proofs.Math.Dec.{leb}
 use Rattle.std.proofs.lemmas.Bool.{leb-true}
@@ -10,7 +10,7 @@ use Rattle.kern_token.specs.declared.token.TokenKind.TheVariants as kinds
 use Rattle.kern_token.specs.declared.token.Word.{Word}
 use Rattle.kern_token.specs.declared.token.Word.TheVariants as words
 use Rattle.kern_token.specs.Pieces.{Piece, IsPiece, Begins}
-use Rattle.kern_token.specs.Reading.{Splits, tokens_of}
+use Rattle.kern_token.specs.Reading.{tokens_of}
 use Rattle.kern_token.specs.Stopping.{StopsBefore}
 use Rattle.kern_tree.specs.declared.expr.Expr.{Expr}
 use Rattle.kern_tree.specs.declared.expr.Form.TheVariants as forms

@@ -1,4 +1,5 @@
 pub mod RangeLemmas
+pub mod CutLemmas
 pub mod GroupingLemmas
 pub mod ListingLemmas
 pub mod ReachedLemmas

@@ -10,7 +10,6 @@ use Rattle.pf_model.specs.Domains.{Multisection, cuts_for, owner_by}
 use Rattle.pf_model.specs.Group.{particles_in, group_cells, box_of}
 use Rattle.pf_model.specs.Groups.{RankGroup}
 use Rattle.pf_model.specs.EssentialTree.{limited_list}
-use Rattle.multisection.specs.Regions.{Regions}
 use Rattle.step_core.specs.declared.site.Site.{Site}
 use Rattle.step_core.specs.declared.event.Event.{Event}
 use Rattle.step_core.specs.Laws.{IsLegalRun}
@@ -46,10 +45,10 @@ seen_by cuts js ranks = filter (is_seen cuts ranks) js
 abbrev pub list_at : Criterion → Division → List Particle → List ℕ → Site → List Entry
 list_at t g js arrivals site = limited_list t site.around g js (site.rank ∷ arrivals)
 
--- what each scene keeps: its domains and what it has of groups are those of its settings
-pub record IsScene (s : Settings) (made : Regions) (listed : List Site) : Type 0 where
+-- what each scene keeps: its cuts and what it has of groups are those of its settings
+pub record IsScene (s : Settings) (cut : Multisection) (listed : List Site) : Type 0 where
   pub settings : IsSettings s
-  pub domains : made.cuts ≡ cuts_for s.grid s.bodies
+  pub cuts : cut ≡ cuts_for s.grid s.bodies
   pub sites : listed ≡ map listed_site (numbered_groups s)
   pub few : length listed < 2 ^ 32
 

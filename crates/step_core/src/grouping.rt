@@ -2,8 +2,8 @@ ghost use Rattle.std.specs.Prelude.{◌≡◌, ◌++◌, IfOk, map};
 ghost use Rattle.pf_model.specs.Group.{group_cells};
 ghost use Rattle.step_core.specs.Plain.{plain_owned, site_in, sites_by};
 
+use crate::cuts::Cuts;
 use crate::site::Site;
-use multisection::{Domains, owner};
 use pf_model::{Body, box_of, slow_group_cells, slow_members};
 use pf_num::OutOfMemory;
 use std::alloc::Global;
@@ -12,15 +12,15 @@ use std::alloc::Global;
 pub(crate) fn sites_by(
     alloc: Global,
     bodies: &[Body],
-    domains: &Domains,
+    cuts: &Cuts,
     ranks: u32,
     limit: u32,
 ) -> Result<Vec<Site>, OutOfMemory>
-    ensures { IfOk result (λ sites. sites.items ≡ sites_by limit domains.now.cuts bodies.now ranks) }
+    ensures { IfOk result (λ sites. sites.items ≡ sites_by limit cuts.now bodies.now ranks) }
 {
     let mut sites = Vec::new(alloc);
     for rank in 0..ranks {
-        let own = owned_by(alloc, bodies, domains, rank)?;
+        let own = owned_by(alloc, bodies, cuts, rank)?;
         add_sites(alloc, &mut sites, &own, rank, limit)?;
     }
     Ok(sites)
@@ -30,13 +30,18 @@ pub(crate) fn sites_by(
 fn owned_by(
     alloc: Global,
     bodies: &[Body],
-    domains: &Domains,
+    cuts: &Cuts,
     rank: u32,
 ) -> Result<Vec<Body>, OutOfMemory>
-    ensures { IfOk result (λ own. own.items ≡ plain_owned domains.now.cuts bodies.now rank) }
+    ensures { IfOk result (λ own. own.items ≡ plain_owned cuts.now bodies.now rank) }
 {
-    let own = bodies.iter().filter(|body| owner(domains, body.at) == rank);
-    Ok(own.copied().collect(alloc)?)
+    Ok(
+        bodies
+            .iter()
+            .filter(|body| cuts.owner(body.at) == rank)
+            .copied()
+            .collect(alloc)?,
+    )
 }
 
 // Puts the groups of a rank behind those before.

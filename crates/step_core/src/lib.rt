@@ -1,10 +1,13 @@
 // The pure core of a build: every legal list of events, by which essential trees reach their ranks and workers claim
-// and finish groups. It stands on multisection and on the plain scans of pf_model.
+// and finish groups. It stands on pf_model, with the points of pf_geom and the want of memory of pf_num.
 #![tactic(auto)]
 
+mod cuts;
+mod cutting;
 mod event;
 mod grouping;
 mod laws;
+mod ordering;
 mod progress;
 mod scene;
 mod sequence;

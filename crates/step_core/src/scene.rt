@@ -5,13 +5,14 @@ ghost use Rattle.step_core.specs.Core.{IsSettings, numbered_groups, ranks_of, in
 ghost use Rattle.step_core.specs.Core.{partial_lists};
 ghost use Rattle.step_core.specs.Plain.{listed_site, list_at, is_seen, seen_by};
 
+use crate::cuts::Cuts;
+use crate::cutting::cut;
 use crate::grouping::sites_by;
 use crate::progress::Progress;
 use crate::sequence::Sequence;
 use crate::setup::Setup;
 use crate::site::Site;
 use model_laws::{groups_are_few, some_have_distinct_ids};
-use multisection::{Domains, make_domains, owner};
 use pf_model::{Body, Entry, Grid, slow_list};
 use pf_num::OutOfMemory;
 use std::alloc::Global;
@@ -21,7 +22,7 @@ use std::marker::Model;
 #[derive(Drop)]
 pub(crate) struct Scene {
     setup: Setup,
-    domains: Domains,
+    cuts: Cuts,
     sites: Vec<Site>,
 }
 
@@ -33,7 +34,7 @@ impl Model for Scene {
 
     ghost view = { λ s. s.setup };
 
-    ghost invariant = { λ s. IsScene s.setup s.domains s.sites.items };
+    ghost invariant = { λ s. IsScene s.setup s.cuts s.sites.items };
 }
 
 impl Scene {
@@ -42,19 +43,15 @@ impl Scene {
         ensures { IfOk result (λ scene. scene ≡ setup) }
     {
         groups_are_few();
-        let domains = make_domains(alloc, &setup.bodies, setup.grid)?;
+        let cuts = cut(alloc, &setup.bodies, setup.grid)?;
         let sites = sites_by(
             alloc,
             &setup.bodies,
-            &domains,
+            &cuts,
             rank_count(setup.grid),
             setup.group,
         )?;
-        Ok(Scene {
-            setup,
-            domains,
-            sites,
-        })
+        Ok(Scene { setup, cuts, sites })
     }
 
     // The number of ranks.
@@ -152,13 +149,7 @@ impl Scene {
         ensures { IfOk result (λ list. list ≡ list_at self.now.theta self.now.grid self.now.bodies arrivals.now site) }
     {
         some_have_distinct_ids();
-        let seen = seen_by(
-            alloc,
-            &self.setup.bodies,
-            &self.domains,
-            site.rank,
-            arrivals,
-        )?;
+        let seen = seen_by(alloc, &self.setup.bodies, &self.cuts, site.rank, arrivals)?;
         Ok(Sequence::from_vec(slow_list(alloc, &seen, site.around, self.setup.theta)?))
     }
 }
@@ -167,22 +158,25 @@ impl Scene {
 fn seen_by(
     alloc: Global,
     bodies: &[Body],
-    domains: &Domains,
+    cuts: &Cuts,
     rank: u32,
     arrivals: &[u32],
 ) -> Result<Vec<Body>, OutOfMemory>
-    ensures { IfOk result (λ seen. seen.items ≡ seen_by domains.now.cuts bodies.now (rank ∷ arrivals.now)) }
+    ensures { IfOk result (λ seen. seen.items ≡ seen_by cuts.now bodies.now (rank ∷ arrivals.now)) }
 {
-    let seen = bodies
-        .iter()
-        .filter(|body| is_seen(body, domains, rank, arrivals));
-    Ok(seen.copied().collect(alloc)?)
+    Ok(
+        bodies
+            .iter()
+            .filter(|body| is_seen(body, cuts, rank, arrivals))
+            .copied()
+            .collect(alloc)?,
+    )
 }
 
-fn is_seen(body: &Body, domains: &Domains, rank: u32, arrivals: &[u32]) -> bool
-    ensures { result ≡ is_seen domains.now.cuts (rank ∷ arrivals.now) body.now }
+fn is_seen(body: &Body, cuts: &Cuts, rank: u32, arrivals: &[u32]) -> bool
+    ensures { result ≡ is_seen cuts.now (rank ∷ arrivals.now) body.now }
 {
-    let owner = owner(domains, body.at);
+    let owner = cuts.owner(body.at);
     owner == rank || arrivals.contains(&owner)
 }
 
