@@ -1,11 +1,11 @@
 -- A command concludes: it was carried out, and then its line was said.
-use Rattle.std.proofs.Common.{ℕ, ◌≡◌, ◌≢◌, ◌+◌, ◌<◌, ◌⊎◌, inl, inr, List, ◌++◌, IsTrue, IfSome, option_map, refl, sym, ap, subst, ◌∙◌, arith}
+use Rattle.std.proofs.Common.{ℕ, ◌≡◌, ◌≢◌, ◌+◌, ◌<◌, ◌⊎◌, inl, inr, List, ◌++◌, IsTrue, IfSome, Option, Some, None, option_map, refl, sym, ap, subst, ◌∙◌, arith}
 use Rattle.pf_io.specs.Store.{Files, Told, Faults, after_say, one_more_say}
-use Rattle.command_frame.specs.Clauses.{Concludes, IsUnlessStopped, IsJudgement, HasLine, IsAccepted, IsOutputDue, HasAnswered, HasOutput, HasOutputFront, WritesNothing, IsNoOutput, SaidThis, SaidNothing}
-use Rattle.command_frame.specs.Effects.{CarriesOut, SaysLine, Leaves, LeavesSaid}
+use Rattle.command_frame.specs.Clauses.{Concludes, OnContents, IsUnlessStopped, IsJudgement, HasLine, IsAccepted, IsOutputDue, HasAnswered, HasOutput, HasOutputFront, WritesNothing, IsNoOutput, SaidThis, SaidNothing}
+use Rattle.command_frame.specs.Effects.{CarriesOut, SaysLine, Leaves, LeavesFiles, LeavesSaid}
 use Rattle.command_frame.specs.Standing.{Standing, IfBoth, IfTold}
 use Rattle.command_frame.specs.Status.{failed_call, count_of, counts_after}
-use Rattle.command_frame.specs.Verdict.{Verdict, lacks, stops, writes, speaks, AtMostOne}
+use Rattle.command_frame.specs.Verdict.{Verdict, lacks, stops, writes, speaks, AtMostOne, IgnoresFiles}
 use Rattle.command_frame.specs.declared.status.Status.{Status}
 use Rattle.command_frame.specs.declared.status.Status.TheVariants.{Done, Usage, Refused, Numeric, Lists, StoreFault, Memory}
 use Rattle.command_frame.specs.declared.status.StoreCall.{StoreCall}
@@ -121,7 +121,7 @@ module _ {R F : Type 0} (MayEnd : Status R F → Type 0) (Means : Files → Verd
       ]
 
   Lacking : Type 0
-  Lacking = ((result ≡ StoreFault Open) ⊎ (result ≡ Memory)) × IfSome old.told (λ t. Means t.files lacks)
+  Lacking = ((result ≡ StoreFault Open) ⊎ (result ≡ Memory)) × MayEnd (StoreFault Open) × IfSome old.told (λ t. Means t.files lacks)
 
   steady : IsTrue old.is_steady → (new.faults ≡ old.faults) ⊎ Lacking
   unfolding Lacking
@@ -140,7 +140,8 @@ module _ {R F : Type 0} (MayEnd : Status R F → Type 0) (Means : Files → Verd
         | inr fault ↦
             let lacking = carried.steady is fault.0 fault.1 in
             let opening : status ≡ StoreFault Open = fault.1 ∙ ap (λ (c : StoreCall). StoreFault c) lacking.0 in
-            elim ending [ inl e ↦ inr (inl (e ∙ opening), lacking.1) | inr m ↦ inr (inr m.0, lacking.1) ]
+            let may = subst MayEnd opening carried.ends in
+            elim ending [ inl e ↦ inr (inl (e ∙ opening), may, lacking.1) | inr m ↦ inr (inr m.0, may, lacking.1) ]
       ]
 
   -- what was said
@@ -258,17 +259,24 @@ module _ {R F : Type 0} (MayEnd : Status R F → Type 0) (Means : Files → Verd
   of_both : (P : Told → Told → Type 0) → ((t u : Told) → Ending t u → P t u) → IfTold old new P
   of_both P h = more_of_both old.told new.told Ending P h ways
 
-  of_entry : (P : Told → Type 0) → ((t u : Told) → Ending t u → P t) → IfSome old.told P
-  of_entry P h = at_entry old.told new.told Ending P h ways
+  -- or on the contents at entry
+  on_contents : (P : Files → Type 0) → ((files later : Files) → Way (Means files) result files later → P files) → OnContents Means old.told P
+  unfolding Ending
+  on_contents P h = judged old.told (at_entry old.told new.told Ending (λ t. P t.files) (λ t u w. h t.files u.files w) ways) where
+    judged : (o : Option Told) → IfSome o (λ t. P t.files) → OnContents Means o P
+    judged None known = λ alike files.
+        let later = carried.untold alike files in
+        h files later.0 (ends_by files later.0 (way (Means files) status files later.0 later.1))
+    judged (Some t) known = known
 
   pub concluded : Concludes MayEnd Means line_of result old new
   unfolding Said Silent Ending Lacking
   concluded = record {
     ends = may_end;
-    refused_only = λ r. of_entry (λ t. Means t.files (stops result)) (λ t u w. stops_of (Means t.files) result t.files u.files r w);
-    refused = of_entry (λ t. (other : Status R F) → Means t.files (stops other) → IsUnlessStopped result other)
-        (λ t u w other m. unless_of (Means t.files) result t.files u.files (one t.files) other m w);
-    accepted_only = λ l. of_entry (λ t. IsAccepted (Means t.files) result) (λ t u w. accepted_of (Means t.files) result t.files u.files l w);
+    refused_only = λ r. on_contents (λ files. Means files (stops result)) (λ files later w. stops_of (Means files) result files later r w);
+    refused = on_contents (λ files. (other : Status R F) → Means files (stops other) → IsUnlessStopped result other)
+        (λ files later w other m. unless_of (Means files) result files later (one files) other m w);
+    accepted_only = λ l. on_contents (λ files. IsAccepted (Means files) result) (λ files later w. accepted_of (Means files) result files later l w);
     contents_kept = λ k. of_both (λ t u. u.files ≡ t.files) (λ t u w. kept_of (Means t.files) result t.files u.files k w);
     nothing_written = of_both (λ t u. WritesNothing (Means t.files) → u.files ≡ t.files)
         (λ t u w none. nothing_written_of (Means t.files) result t.files u.files none w);
@@ -281,7 +289,7 @@ module _ {R F : Type 0} (MayEnd : Status R F → Type 0) (Means : Files → Verd
     memory = λ is. of_both (λ t u. (u.files ≡ t.files) ⊎ (IsOutputDue (Means t.files) × HasOutputFront (Means t.files) u.files))
         (λ t u w. memory_of (Means t.files) result t.files u.files (one t.files) is w);
     fault_rose = fault_rose;
-    create_and_write_only = λ is. of_entry (λ t. IsOutputDue (Means t.files)) (λ t u w. due_of (Means t.files) result t.files u.files is w);
+    create_and_write_only = λ is. on_contents (λ files. IsOutputDue (Means files)) (λ files later w. due_of (Means files) result files later is w);
     steady = steady;
     done_counts = done_counts;
     done_said = done_said;
@@ -289,8 +297,8 @@ module _ {R F : Type 0} (MayEnd : Status R F → Type 0) (Means : Files → Verd
     said = said;
     say_fault = say_fault;
     memory_said = memory_said;
-    written = of_entry (λ t. (out text : List ℕ) (last : Status R F) → Means t.files (writes out text last) → new.faults ≡ old.faults → (result ≡ last) ⊎ (result ≡ Memory))
-        (λ t u w out text last m same. written_of (Means t.files) t.files u.files (one t.files) w out text last m same);
-    answered = of_entry (λ t. (text : List ℕ) → Means t.files (speaks text) → new.faults ≡ old.faults → (result ≡ Done) ⊎ (result ≡ Memory))
-        (λ t u w text m same. answered_of (Means t.files) t.files u.files (one t.files) w text m same);
+    written = on_contents (λ files. (out text : List ℕ) (last : Status R F) → Means files (writes out text last) → new.faults ≡ old.faults → (result ≡ last) ⊎ (result ≡ Memory))
+        (λ files later w out text last m same. written_of (Means files) files later (one files) w out text last m same);
+    answered = on_contents (λ files. (text : List ℕ) → Means files (speaks text) → new.faults ≡ old.faults → (result ≡ Done) ⊎ (result ≡ Memory))
+        (λ files later w text m same. answered_of (Means files) files later (one files) w text m same);
   }

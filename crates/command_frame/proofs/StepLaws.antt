@@ -7,7 +7,7 @@ use Rattle.command_frame.specs.Effects.{CarriesOut, Leaves, LeavesFiles, LeavesS
 use Rattle.command_frame.specs.Reading.{ReadsInput, Answers, Interprets, IsItself, ending_of, failing_of}
 use Rattle.command_frame.specs.Standing.{Standing, IfBoth, IsKept}
 use Rattle.command_frame.specs.Status.{EndsReading, failed_call, counts_after}
-use Rattle.command_frame.specs.Verdict.{Verdict, lacks, stops, writes, speaks, After, AfterText, Within}
+use Rattle.command_frame.specs.Verdict.{Verdict, lacks, stops, writes, speaks, After, AfterText, Within, IgnoresFiles}
 use Rattle.command_frame.specs.declared.status.Status.{Status}
 use Rattle.command_frame.specs.declared.status.Status.TheVariants.{Done, Usage, Refused, Numeric, Lists, StoreFault, Memory}
 use Rattle.command_frame.specs.declared.status.StoreCall.{StoreCall}
@@ -89,13 +89,24 @@ lacks_from M N None mid more kept h = tt
 lacks_from M N (Some t) None more kept h = absurd kept
 lacks_from M N (Some t) (Some u) more kept h = more lacks (subst (λ (files : Files). M files lacks) kept.files h)
 
+-- on any contents, a status is one to which a verdict leads
+abbrev EndsUntold : {R F : Type 0} → (Files → Verdict R F → Type 0) → Status R F → Type 0
+EndsUntold M status = IgnoresFiles M → (files : Files) → (later : Files) × LeavesFiles (M files) status files later
+
+untold_of_more : {R F : Type 0} (M N : Files → Verdict R F → Type 0) (status : Status R F) → ((files : Files) (verdict : Verdict R F) → M files verdict → N files verdict) → (IgnoresFiles N → IgnoresFiles M)
+    → EndsUntold M status → EndsUntold N status
+untold_of_more M N status more ignores h = λ alike files.
+    let later = h (ignores alike) files in
+    (later.0, files_of_more (M files) (N files) status files later.0 (more files) later.1)
+
 -- a command is carried out where a step that changes nothing leads to it, and its verdicts follow
 carried_from : {R F : Type 0} (E D : Status R F → Type 0) (M N : Files → Verdict R F → Type 0) (status : Status R F) (old mid new : Standing)
     → (E status → D status) → IfSome old.told (λ t. Implies (M t.files) (N t.files)) → IfBoth old.told mid.told IsKept → mid.faults ≡ old.faults → (IsTrue old.is_steady → IsTrue mid.is_steady)
-    → CarriesOut E M status mid new → CarriesOut D N status old new
-carried_from E D M N status old mid new ends more kept counts steady h = record {
+    → EndsUntold N status → CarriesOut E M status mid new → CarriesOut D N status old new
+carried_from E D M N status old mid new ends more kept counts steady untold h = record {
   ends = ends h.ends;
   left = left_from M N status old.told mid.told new.told more kept h.left;
+  untold = untold;
   counts = h.counts ∙ ap (counts_after (failed_call status)) counts;
   stays_steady = λ is. h.stays_steady (steady is);
   steady = λ is call e. let lacking = h.steady (steady is) call e in (lacking.0, lacks_from M N old.told mid.told more kept lacking.1);
@@ -111,9 +122,11 @@ same_kept (Some t) = record { files = refl; said = refl }
 
 -- a command is carried out as one with more verdicts and more statuses
 pub carried_as_more : {R F : Type 0} (E D : Status R F → Type 0) (M N : Files → Verdict R F → Type 0) (status : Status R F) (old new : Standing)
-    → (E status → D status) → ((files : Files) (verdict : Verdict R F) → M files verdict → N files verdict) → CarriesOut E M status old new → CarriesOut D N status old new
-carried_as_more {R} {F} E D M N status old new ends more h =
-    carried_from E D M N status old old new ends (any_told old.told (λ t. Implies (M t.files) (N t.files)) (λ t. more t.files)) (same_kept old.told) refl (λ is. is) h
+    → (E status → D status) → ((files : Files) (verdict : Verdict R F) → M files verdict → N files verdict) → (IgnoresFiles N → IgnoresFiles M)
+    → CarriesOut E M status old new → CarriesOut D N status old new
+carried_as_more {R} {F} E D M N status old new ends more ignores h =
+    carried_from E D M N status old old new ends (any_told old.told (λ t. Implies (M t.files) (N t.files)) (λ t. more t.files)) (same_kept old.told) refl (λ is. is)
+    (untold_of_more M N status more ignores h.untold) h
 
 -- a command that ends before it calls its store: with the status of its verdict, or for want of memory
 pub carried_at_once : {R F : Type 0} (E : Status R F → Type 0) (M : Files → Verdict R F → Type 0) (status : Status R F) (old : Standing)
@@ -122,6 +135,7 @@ pub carried_at_once : {R F : Type 0} (E : Status R F → Type 0) (M : Files → 
 carried_at_once {R} {F} E M status old ends files said none = record {
   ends = ends;
   left = left old.told;
+  untold = λ alike any. (any, files any);
   counts = sym (ap (λ (o : Option StoreCall). counts_after o old.faults) none);
   stays_steady = λ is. is;
   steady = λ is call e. let other = ap failed_call e in cc;
@@ -140,11 +154,13 @@ value_there {X} {A} {R} {F} Means view next (Some text) answer x is h =
 -- the input was read, and the command goes on with its value
 pub goes_on_after : {X A R F : Type 0} (E : Status R F → Type 0) (Means : List ℕ → Result A R → Type 0) (view : X → A) (name : List ℕ) (next : Files → A → Verdict R F → Type 0)
     (answer : Result X (Status R F)) (x : X) (status : Status R F) (old mid new : Standing)
-    → answer ≡ Ok x → ReadsInput Means view name answer old mid → CarriesOut E (λ files. next files (view x)) status mid new
+    → answer ≡ Ok x → ReadsInput Means view name answer old mid → ¬ IgnoresFiles (λ files. After Means files name (next files))
+    → CarriesOut E (λ files. next files (view x)) status mid new
     → CarriesOut E (λ files. After Means files name (next files)) status old new
-goes_on_after {X} {A} {R} {F} E Means view name next answer x status old mid new is read h =
+goes_on_after {X} {A} {R} {F} E Means view name next answer x status old mid new is read looks h =
     carried_from E E (λ files. next files (view x)) (λ files. After Means files name (next files)) status old mid new (λ ends. ends)
-    (follows old.told read.answers) read.kept (read.counts ∙ ap (λ (a : Result X (Status R F)). counts_after (failing_of a) old.faults) is) read.stays_steady h
+    (follows old.told read.answers) read.kept (read.counts ∙ ap (λ (a : Result X (Status R F)). counts_after (failing_of a) old.faults) is) read.stays_steady
+    (λ alike. absurd (looks alike)) h
   where
     follows : (o : Option Told) → IfSome o (λ t. Answers Means view (t.files name) answer) → IfSome o (λ t. Implies (next t.files (view x)) (After Means t.files name (next t.files)))
     follows None a = tt
@@ -191,12 +207,14 @@ lacks_after Means next (Some text) e = cc
 pub stops_after : {X A R F : Type 0} (E : Status R F → Type 0) (Means : List ℕ → Result A R → Type 0) (view : X → A) (name : List ℕ) (next : Files → A → Verdict R F → Type 0)
     (answer : Result X (Status R F)) (status : Status R F) (old new : Standing)
     → ((s : Status R F) → EndsReading s → E s) → answer ≡ Err status → ReadsInput Means view name answer old new
+    → ¬ IgnoresFiles (λ files. After Means files name (next files))
     → CarriesOut E (λ files. After Means files name (next files)) status old new
-stops_after {X} {A} {R} {F} E Means view name next answer status old new may is read =
+stops_after {X} {A} {R} {F} E Means view name next answer status old new may is read looks =
     let ends : EndsReading status = subst (λ (a : Result X (Status R F)). IfSome (ending_of a) EndsReading) is read.ends in
     record {
       ends = may status ends;
       left = left old.told new.told ends read.answers read.kept;
+      untold = λ alike. absurd (looks alike);
       counts = read.counts ∙ ap (λ (a : Result X (Status R F)). counts_after (failing_of a) old.faults) is;
       stays_steady = read.stays_steady;
       steady = λ steady call e. let lacking = read.steady steady call (is ∙ ap Err e) in (lacking.0, lacking_told old.told lacking.1);

@@ -133,6 +133,28 @@ left {R} {F} out texts last status old mid new made h = elim h [
   | inr some ↦ broke out texts some.1 last status old mid new some.0 some.2 made some.3
 ]
 
+-- a store that tells these contents
+with_files : Files → Told
+with_files files = record { files = files; unread = []; written = []; sink = None; said = [] }
+
+-- so a status after an appending is one to which the text leads on any contents
+pub left_untold : {R F : Type 0} (out : List ℕ) (texts : List (List ℕ)) (last status : Status R F) (mid new : Option Told)
+    → Appends texts last status mid new → (files : Files) → (later : Files) × LeavesFiles (WritesThis out (concat texts) last files) status files later
+unfolding with_files
+left_untold {R} {F} out texts last status mid new h files = elim h [
+  | inl all ↦ subst (λ (s : Status R F). Leads s) (all.0)
+      (let w = wrote out texts status (Some t) (Some u) (option_map (appended texts) (Some u)) all.1 refl refl in (_, w.files))
+  | inr some ↦ (_, (broke out texts some.1 last status (Some t) (Some u) (option_map (appended some.1) (Some u)) some.0 some.2 refl refl).files)
+] where
+  t : Told
+  t = with_files files
+
+  u : Told
+  u = after_create out t
+
+  Leads : Status R F → Type 0
+  Leads s = (later : Files) × LeavesFiles (WritesThis out (concat texts) s files) status files later
+
 last_ends : {R F : Type 0} (status : Status R F) → IsLast status → EndsWriting status
 last_ends Done last = tt
 last_ends Usage last = absurd last

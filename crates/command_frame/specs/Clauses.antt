@@ -1,14 +1,20 @@
 -- What a command keeps to from its call to its return: each clause over its verdict on the contents at entry.
-use Rattle.std.specs.Prelude.{ℕ, ◌≡◌, ◌≢◌, ◌+◌, ◌<◌, ◌⊎◌, List, ◌++◌, IsTrue, IfSome, IsSomeAnd, Some}
-use Rattle.pf_io.specs.Store.{Files}
+use Rattle.std.specs.Prelude.{ℕ, ◌≡◌, ◌≢◌, ◌+◌, ◌<◌, ◌⊎◌, List, ◌++◌, IsTrue, IfSome, IsSomeAnd, Option, Some, None}
+use Rattle.pf_io.specs.Store.{Files, Told}
 use Rattle.command_frame.specs.Standing.{Standing, IfTold, IsFrontOf}
 use Rattle.command_frame.specs.Status.{IsRefusal, IsLast, count_of}
-use Rattle.command_frame.specs.Verdict.{Verdict, lacks, stops, writes, speaks}
+use Rattle.command_frame.specs.Verdict.{Verdict, lacks, stops, writes, speaks, IgnoresFiles}
 use Rattle.command_frame.specs.declared.status.Status.{Status}
 use Rattle.command_frame.specs.declared.status.Status.TheVariants.{Done, Usage, Refused, Numeric, Lists}
 use Rattle.command_frame.specs.declared.status.Status.TheVariants.{StoreFault, Memory}
 use Rattle.command_frame.specs.declared.status.StoreCall.{StoreCall}
 use Rattle.command_frame.specs.declared.status.StoreCall.TheVariants.{Open, Read, Create, Write, Say}
+
+-- what holds on the contents at entry: those that the store tells; where it tells none, any contents, of a command whose
+-- verdict doesn't depend on them
+abbrev pub OnContents : {R F : Type 0} → (Files → Verdict R F → Type 0) → Option Told → (Files → Type 0) → Type 0
+OnContents Means None holds = IgnoresFiles Means → (files : Files) → holds files
+OnContents Means (Some t) holds = holds t.files
 
 -- this status, or one that stopped the command before: want of memory, or a fault of opening or reading
 abbrev pub IsUnlessStopped : {R F : Type 0} → Status R F → Status R F → Type 0
@@ -99,10 +105,10 @@ SaidNothing old new = IfTold old new (λ t u. u.said ≡ t.said)
 pub record Concludes {R F : Type 0} (MayEnd : Status R F → Type 0) (Means : Files → Verdict R F → Type 0)
     (line_of : Status R F → List ℕ) (result : Status R F) (old new : Standing) : Type 0 where
   pub ends : (result ≡ Memory) ⊎ MayEnd result
-  pub refused_only : IsRefusal result → IfSome old.told (λ t. Means t.files (stops result))
-  pub refused : IfSome old.told (λ t. (status : Status R F) → Means t.files (stops status)
+  pub refused_only : IsRefusal result → OnContents Means old.told (λ files. Means files (stops result))
+  pub refused : OnContents Means old.told (λ files. (status : Status R F) → Means files (stops status)
       → IsUnlessStopped result status)
-  pub accepted_only : IsLast result → IfSome old.told (λ t. IsAccepted (Means t.files) result)
+  pub accepted_only : IsLast result → OnContents Means old.told (λ files. IsAccepted (Means files) result)
   pub contents_kept : KeepsContents result → IfTold old new (λ t u. u.files ≡ t.files)
   pub nothing_written : IfTold old new (λ t u. WritesNothing (Means t.files) → u.files ≡ t.files)
   pub others_kept : IfTold old new (λ t u. (name : List ℕ) → IsNoOutput (Means t.files) name
@@ -113,9 +119,10 @@ pub record Concludes {R F : Type 0} (MayEnd : Status R F → Type 0) (Means : Fi
       (u.files ≡ t.files) ⊎ (IsOutputDue (Means t.files) × HasOutputFront (Means t.files) u.files))
   pub fault_rose : (call : StoreCall) → result ≡ StoreFault call → count_of call old.faults < count_of call new.faults
   pub create_and_write_only : (result ≡ StoreFault Create) ⊎ (result ≡ StoreFault Write)
-      → IfSome old.told (λ t. IsOutputDue (Means t.files))
+      → OnContents Means old.told (λ files. IsOutputDue (Means files))
   pub steady : IsTrue old.is_steady → (new.faults ≡ old.faults)
-      ⊎ (((result ≡ StoreFault Open) ⊎ (result ≡ Memory)) × IfSome old.told (λ t. Means t.files lacks))
+      ⊎ (((result ≡ StoreFault Open) ⊎ (result ≡ Memory)) × MayEnd (StoreFault Open)
+      × IfSome old.told (λ t. Means t.files lacks))
   pub done_counts : result ≡ Done → new.faults ≡ old.faults
   pub done_said : result ≡ Done → IfTold old new (λ t u. HasAnswered (Means t.files) t.said u.said)
   pub other_counts : (call : StoreCall) → IsJudgement result → call ≢ Say
@@ -127,7 +134,7 @@ pub record Concludes {R F : Type 0} (MayEnd : Status R F → Type 0) (Means : Fi
       → ((new.faults.says ≡ old.faults.says + 1) × SaidThis (line_of result) old new)
       ⊎ ((new.faults.says ≡ old.faults.says + 2) × SaidNothing old new)
   pub memory_said : result ≡ Memory → SaidThis (line_of result) old new ⊎ SaidNothing old new
-  pub written : IfSome old.told (λ t. (out text : List ℕ) (last : Status R F) → Means t.files (writes out text last)
+  pub written : OnContents Means old.told (λ files. (out text : List ℕ) (last : Status R F) → Means files (writes out text last)
       → new.faults ≡ old.faults → (result ≡ last) ⊎ (result ≡ Memory))
-  pub answered : IfSome old.told (λ t. (text : List ℕ) → Means t.files (speaks text)
+  pub answered : OnContents Means old.told (λ files. (text : List ℕ) → Means files (speaks text)
       → new.faults ≡ old.faults → (result ≡ Done) ⊎ (result ≡ Memory))

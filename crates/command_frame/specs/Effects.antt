@@ -4,7 +4,7 @@ use Rattle.std.specs.Prelude.{option_map}
 use Rattle.pf_io.specs.Store.{Files, Told, after_say, one_more_say}
 use Rattle.command_frame.specs.Standing.{Standing, IfTold, IsWritten}
 use Rattle.command_frame.specs.Status.{failed_call, counts_after}
-use Rattle.command_frame.specs.Verdict.{Verdict, lacks, stops, writes, speaks}
+use Rattle.command_frame.specs.Verdict.{Verdict, lacks, stops, writes, speaks, IgnoresFiles}
 use Rattle.command_frame.specs.declared.status.Status.{Status}
 use Rattle.command_frame.specs.declared.status.Status.TheVariants.{Done, Usage, Refused, Numeric, Lists}
 use Rattle.command_frame.specs.declared.status.Status.TheVariants.{StoreFault, Memory}
@@ -88,12 +88,14 @@ pub record Leaves {R F : Type 0} (Means : Files → Verdict R F → Type 0)
   pub files : LeavesFiles (Means old.files) status old.files new.files
   pub said : LeavesSaid (Means old.files) status old.said new.said
 
--- a command is carried out, to a status with which it may end: it leaves what its verdict says, and a method of its
--- store failed exactly where the status says so, over a steady store only where an input isn't there
+-- a command is carried out, to a status with which it may end: it leaves what its verdict says, and where the verdict
+-- is the same on all contents, the status is one to which it leads, whether or not the store tells its contents; a method
+-- of its store failed exactly where the status says so, over a steady store only where an input isn't there
 pub record CarriesOut {R F : Type 0} (MayEnd : Status R F → Type 0) (Means : Files → Verdict R F → Type 0)
     (status : Status R F) (old new : Standing) : Type 0 where
   pub ends : MayEnd status
   pub left : IfTold old new (Leaves Means status)
+  pub untold : IgnoresFiles Means → (files : Files) → (later : Files) × LeavesFiles (Means files) status files later
   pub counts : new.faults ≡ counts_after (failed_call status) old.faults
   pub stays_steady : IsTrue old.is_steady → IsTrue new.is_steady
   pub steady : IsTrue old.is_steady → (call : StoreCall) → status ≡ StoreFault call

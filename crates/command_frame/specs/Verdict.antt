@@ -39,3 +39,10 @@ Refusing {E = E} why Means text (Err refusal) = (fault : E) × Means text (Err f
 
 abbrev pub AtMostOne : {A : Type 0} → (A → Type 0) → Type 0
 AtMostOne {A} Fits = (a b : A) → Fits a → Fits b → a ≡ b
+
+abbrev pub AtLeastOne : {A : Type 0} → (A → Type 0) → Type 0
+AtLeastOne {A} Fits = (a : A) × Fits a
+
+-- the verdict is the same whatever the contents are
+abbrev pub IgnoresFiles : {R F : Type 0} → (Files → Verdict R F → Type 0) → Type 0
+IgnoresFiles {R} {F} Means = (some other : Files) (verdict : Verdict R F) → Means some verdict → Means other verdict

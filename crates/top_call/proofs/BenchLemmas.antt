@@ -100,7 +100,7 @@ pub said_bench : (count seed : ℕ) (said text : List ℕ) (status : Ending) (ol
     → CarriesOut EndsSpeaking (λ files verdict. verdict ≡ speaks said) status old new → CarriesOut EndsBench (BenchMeans count seed) status old new
 said_bench count seed said text status old new meant same h =
     carried_as_more EndsSpeaking EndsBench (λ files verdict. verdict ≡ speaks said) (BenchMeans count seed) status old new (speaking_ends_bench status)
-    (λ files verdict e. let m = meant files in (m.0, m.1, e ∙ ap speaks same ∙ m.2)) h
+    (λ files verdict e. let m = meant files in (m.0, m.1, e ∙ ap speaks same ∙ m.2)) (λ alike some other verdict e. e) h
 
 -- a fault ends it with nothing said
 stopped_bench : (count seed : ℕ) (kernel : Kernel) (step : ℕ) (stop : Stop) (old : Standing) → IsBenchKernel kernel

@@ -4,4 +4,5 @@ pub mod InputLemmas
 pub mod KernelLemmas
 pub mod OneVerdict
 pub mod RunSteps
+pub mod SomeVerdict
 pub mod WordLemmas

@@ -8,7 +8,7 @@ use Rattle.command_frame.specs.Effects.{CarriesOut}
 use Rattle.command_frame.specs.Standing.{Standing}
 use Rattle.command_frame.specs.Status.{EndsReading, EndsWriting}
 use Rattle.command_frame.specs.Reading.{ReadsInput}
-use Rattle.command_frame.specs.Verdict.{After, Verdict, writes}
+use Rattle.command_frame.specs.Verdict.{After, Verdict, writes, IgnoresFiles}
 use Rattle.command_frame.specs.declared.status.Status.TheVariants.{Done, Usage, Refused, Numeric, Lists, StoreFault, Memory}
 use Rattle.command_frame.specs.declared.status.StoreCall.TheVariants.{Open, Read, Create, Write, Say}
 use Rattle.command_frame.proofs.StepLaws.{carried_as_more, stops_after}
@@ -20,10 +20,11 @@ use Rattle.top_call.proofs.DumpLemmas.{all_texts}
 -- the reading of an input ends a run
 pub stops_run : {X A : Type 0} (Means : List ℕ → Result A Refusal → Type 0) (view : X → A) (name : List ℕ) (next : Files → A → Verdict Refusal Fault → Type 0)
     (answer : Result X Ending) (status : Ending) (old new : Standing) → EndsRun status → answer ≡ Err status → ReadsInput Means view name answer old new
+    → ¬ IgnoresFiles (λ files. After Means files name (next files))
     → CarriesOut EndsRun (λ files. After Means files name (next files)) status old new
-stops_run {X} {A} Means view name next answer status old new ends is read =
-    let h = stops_after EndsReading Means view name next answer status old new (λ s may. may) is read in
-    record { ends = ends; left = h.left; counts = h.counts; stays_steady = h.stays_steady; steady = h.steady }
+stops_run {X} {A} Means view name next answer status old new ends is read looks =
+    let h = stops_after EndsReading Means view name next answer status old new (λ s may. may) is read looks in
+    record { ends = ends; left = h.left; untold = h.untold; counts = h.counts; stays_steady = h.stays_steady; steady = h.steady }
 
 pub writing_ends_run : (status : Ending) → EndsWriting status → EndsRun status
 writing_ends_run Done h = tt
@@ -49,4 +50,5 @@ dumps_written out name run other world status old new named same h =
     carried_as_more EndsWriting EndsWriting _ (WritesDumps out other) status old new (λ ends. ends)
     (λ files verdict m. m ∙ ap (λ (n : List ℕ). writes n (concat (texts_from run 0)) (last_status run)) named
     ∙ ap (λ (text : List ℕ). writes out text (last_status run)) (all_texts run)
-    ∙ ap (run_verdict out) same) h
+    ∙ ap (run_verdict out) same)
+    (λ alike some other verdict e. e) h

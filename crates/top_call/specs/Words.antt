@@ -5,7 +5,7 @@ use Rattle.run_model.specs.declared.fault.Fault.{Fault}
 use Rattle.command_line.specs.declared.command.Command.{Command}
 use Rattle.command_line.specs.declared.command.Command.TheVariants as commands
 use Rattle.command_line.specs.Words.{command_of}
-use Rattle.command_frame.specs.Verdict.{Verdict, stops, AtMostOne}
+use Rattle.command_frame.specs.Verdict.{Verdict, stops, AtLeastOne, AtMostOne}
 use Rattle.command_frame.specs.declared.status.Status.TheVariants.{Usage, Memory}
 use Rattle.top_call.specs.declared.status.Refusal.{Refusal}
 use Rattle.top_call.specs.Bench.{BenchMeans, EndsBench}
@@ -33,3 +33,7 @@ EndsWords words status = EndsCommand (command_of words) status
 -- words have at most one verdict
 abbrev pub OneVerdict : Type 0
 OneVerdict = (words : List (List ℕ)) (files : Files) → AtMostOne (WordsMean words files)
+
+-- and they have one
+abbrev pub SomeVerdict : Type 0
+SomeVerdict = (words : List (List ℕ)) (files : Files) → AtLeastOne (WordsMean words files)

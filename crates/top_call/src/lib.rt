@@ -14,4 +14,4 @@ mod world;
 
 pub use said::said_line;
 pub use status::{Refusal, Status, code};
-pub use top::{fdps, one_verdict};
+pub use top::{fdps, one_verdict, some_verdict};

@@ -6,7 +6,7 @@ ghost use Rattle.command_frame.specs.Standing.{standing};
 ghost use Rattle.command_frame.specs.Status.{HasRoom};
 ghost use Rattle.command_frame.specs.declared.status.Status.TheVariants.{Memory, Usage};
 ghost use Rattle.top_call.specs.Said.{line_of};
-ghost use Rattle.top_call.specs.Words.{EndsWords, OneVerdict, WordsMean};
+ghost use Rattle.top_call.specs.Words.{EndsWords, OneVerdict, SomeVerdict, WordsMean};
 
 use crate::bench::bench;
 use crate::run::run;
@@ -98,4 +98,15 @@ pub fn one_verdict()
     kern_types::one_typing();
     deck_file::one_reading();
     bench_input::bench_kernels_are_one();
+}
+
+/// The words of the program have a verdict on any contents of its files.
+pub fn some_verdict()
+    ensures { SomeVerdict }
+{
+    kern_token::one_reading();
+    kern_parse::some_answer();
+    kern_types::one_typing();
+    deck_file::one_reading();
+    bench_input::bench_text_is_a_kernel();
 }

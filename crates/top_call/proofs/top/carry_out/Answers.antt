@@ -1,5 +1,5 @@
 use Rattle.std.proofs.Common.{map}
-use Rattle.top_call.proofs.WordLemmas.{bench_of_words, numbers_of_words, run_of_words, workers_of_words}
+use Rattle.top_call.proofs.WordLemmas.{bench_of_words, no_memory_for_words, numbers_of_words, run_of_words, workers_of_words}
 use Rattle.top_call.proofs.top.carry_out.Goals as goal
 
 pub run-requires-clause-workers : goal.run-requires-clause-workers
@@ -28,3 +28,6 @@ pub returns-in-Ok-Some-Bench : goal.returns-in-Ok-Some-Bench
 returns-in-Ok-Some-Bench g c =
     let words = rw (c.in-Ok-Some-Bench.field-0-is, c.in-Ok-Some-Bench.field-0-0-is) at c.in-Ok-Some-Bench.ensures in
     bench_of_words (map g.W.AsStr.text c.args.words.now) c.in-Ok-Some-Bench.particles c.in-Ok-Some-Bench.seed c.in-Ok-Some-Bench.count c.bench.result _ _ words c.bench.ensures
+
+pub returns-in-Err : goal.returns-in-Err
+returns-in-Err g c = no_memory_for_words (map g.W.AsStr.text c.args.words.now) _
