@@ -102,7 +102,6 @@ def _show_refusal(words: List[str], deck: Deck) -> None:
     try:
         again = subprocess.run(
             words,
-            stdin=subprocess.DEVNULL,
             stdout=subprocess.PIPE,
             stderr=subprocess.DEVNULL,
             timeout=AGAIN,

@@ -153,16 +153,22 @@ class Told:
     def __init__(self, total: int) -> None:
         self._total, self._began, self._done = total, time.monotonic(), 0
         self._line = StatusLine() if is_there() else None
+        self._waited: List[Crate] = []
 
     def _minutes(self) -> str:
         return f"{int(time.monotonic() - self._began) // 60} min"
 
-    def at_work(self, names: List[str]) -> None:
+    def at_work(self, names: Sequence[str]) -> None:
         if self._line:
-            names = sorted(names)
-            self._line.show(
-                f"fdps: {self._done} of {self._total} crates proved, {self._minutes()} so far, at work: {', '.join(names)}"
-            )
+            done = f"{self._done} of {self._total} crates proved, {self._minutes()} so far"
+            self._line.show(f"fdps: {done}, at work: {', '.join(names)}")
+
+    def waits(self, crate: Crate) -> None:
+        """Says once that a crate can't begin, since another `rt` works there."""
+        if crate not in self._waited:
+            self._waited.append(crate)
+            self.clear()
+            say(f"fdps: waiting for another rt to finish in {crate.folder}\n")
 
     def proved(self, name: str) -> None:
         self._done += 1
@@ -237,6 +243,7 @@ class Proofs:
                 self._at_work[crate.name] = Proof(Room(self._repository, crate), lock, start.jobs)
             else:
                 taken.add(crate.name)
+                self._told.waits(crate)
             start = schedule.next(taken)
 
     def _take(self, name: str, proof: Proof) -> None:

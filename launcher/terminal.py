@@ -29,14 +29,15 @@ class StatusLine:
     """A line below the cursor. A line that something else writes meanwhile comes above it, so that each stays whole."""
 
     def __init__(self) -> None:
-        self._is_shown = False
+        self._shown = ""
 
     def show(self, text: str) -> None:
-        width = os.get_terminal_size(2).columns or 80
-        say(f"\n\r{text[:width - 1]}{ERASE_LINE}{UP}\r")
-        self._is_shown = True
+        text = text[: (os.get_terminal_size(2).columns or 80) - 1]
+        if text != self._shown:
+            say(f"\n\r{text}{ERASE_LINE}{UP}\r")
+            self._shown = text
 
     def clear(self) -> None:
-        if self._is_shown:
+        if self._shown:
             say(f"\r{ERASE_BELOW}")
-            self._is_shown = False
+            self._shown = ""

@@ -2,6 +2,7 @@
 
 from __future__ import annotations
 
+import contextlib
 import os
 import shutil
 import subprocess
@@ -17,6 +18,16 @@ REAL_PROGRAM: Optional[Path] = None
 # The stub of the program does what the variable STUB says.
 PROGRAM = f"#!{sys.executable} -S\nimport os, signal, sys, time\nexec(os.environ['STUB'])\n"
 RT = Path(__file__).with_name("fake_rt.py")
+
+
+def all_of(terminal: int) -> bytes:
+    """What a terminal gets till its other side is closed, which Linux tells as an error."""
+    shown = b""
+    with contextlib.suppress(OSError):
+        for piece in iter(lambda: os.read(terminal, 4096), b""):
+            shown += piece
+    os.close(terminal)
+    return shown
 
 
 class House(unittest.TestCase):

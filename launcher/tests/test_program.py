@@ -84,7 +84,7 @@ class Program(House):
         self.fail("the program goes on")
 
     def test_closed_streams_stay_closed(self) -> None:
-        stub = "open('found', 'w').write(str([os.path.exists(f'/proc/self/fd/{it}') for it in range(3)]))"
+        stub = "found = [os.path.exists(f'/proc/self/fd/{it}') for it in range(3)]; open('found', 'w').write(str(found))"
         for words in ("run d", "bench 4 1"):
             for closing, wanted in ((">&-", [True, False, True]), ("<&- >&- 2>&-", [False, False, False])):
                 self.assertEqual(self.in_shell(f"{words} {closing}", stub), 0)
@@ -109,6 +109,12 @@ class Program(House):
         stub = "open('runs', 'a').write('run\\n'); print(open(sys.argv[2]).read(), end='', flush=True); sys.exit(3)"
         status, said, told = self.fdps("run", "/dev/stdin", stub=stub, input=DECK.encode())
         self.assertEqual((status, said, told, self.runs()), (3, DECK, "", 1))
+
+    def test_a_deck_on_standard_input_is_shown(self) -> None:
+        stub = "print('fdps: deck: Value line 2' if 'particles' in open(sys.argv[2]).read() else '?', flush=True); sys.exit(3)"
+        with open(self.folder / "d") as deck:
+            status, _, told = self.fdps("run", "/dev/stdin", stub=stub, stdin=deck)
+        self.assertEqual((status, told), (3, SHOWN.replace("d:", "/dev/stdin:")))
 
     def test_inputs_that_changed_are_not_read_again(self) -> None:
         status, _, told = self.fdps("run", "d", stub=f"open('k', 'w').write('changed'); {REFUSES}")

@@ -2,9 +2,9 @@
 
 from __future__ import annotations
 
-import errno
 import os
 import pty
+import shutil
 import subprocess
 import tempfile
 import unittest
@@ -13,16 +13,18 @@ from typing import Tuple
 
 from launcher.deck import Deck
 from launcher.progress import Output, _left
+from launcher.tests import house
 from launcher.tests.house import House
 
-# Seven seconds of a run: steps 0 to 3 at once, and the others much later.
+# Six seconds of a run: steps 0 to 3 at once, and then nothing till it ends with a fault.
 RUNS = """
 with open('o', 'w') as out:
     for step in range(4):
         out.write(f'step {step} particles 0 ranks 1\\nrank 0\\n')
     out.flush()
-    time.sleep(6.5)
-{end}
+    time.sleep(6)
+print('fdps: said')
+sys.exit(4)
 """
 
 
@@ -39,28 +41,24 @@ class Progress(House):
         how = {"cwd": self.folder, "env": env, "stderr": slave, "stdout": subprocess.PIPE}
         with subprocess.Popen([str(self.top / "fdps"), "run", "d"], **how) as started:
             os.close(slave)
-            shown = b""
-            try:
-                for piece in iter(lambda: os.read(master, 4096), b""):
-                    shown += piece
-            except OSError as error:
-                # Linux says so where the terminal's other side is closed.
-                self.assertEqual(error.errno, errno.EIO)
+            shown = house.all_of(master)
             said = started.stdout.read() if started.stdout else b""
-        os.close(master)
         return started.returncode, said, shown
 
-    def test_a_long_run_shows_its_step_and_takes_it_back(self) -> None:
-        status, said, shown = self.on_terminal(RUNS.format(end="print('fdps: said'); sys.exit(4)"))
+    def test_a_long_run_shows_its_step_on_a_terminal_alone(self) -> None:
+        apart = self.folder / "apart"
+        apart.mkdir()
+        shutil.copy(self.folder / "d", apart)
+        how = {"cwd": apart, "env": self.environment(RUNS), "stdout": subprocess.PIPE, "stderr": subprocess.PIPE}
+        with subprocess.Popen([str(self.top / "fdps"), "run", "d"], **how) as silent:
+            status, said, shown = self.on_terminal(RUNS)
+            self.assertEqual(silent.communicate(), (b"fdps: said\n", b""))
         self.assertEqual((status, said), (4, b"fdps: said\n"))
         self.assertIn(b"fdps: step 4 of 40\x1b[K\x1b[A\r", shown)
         self.assertTrue(shown.endswith(b"\r\x1b[J"), shown)
 
     def test_a_short_run_shows_nothing(self) -> None:
         self.assertEqual(self.on_terminal("open('o', 'w')"), (0, b"", b""))
-
-    def test_nothing_is_shown_where_there_is_no_terminal(self) -> None:
-        self.assertEqual(self.fdps("run", "d", stub=RUNS.format(end="")), (0, "", ""))
 
 
 class Grows(unittest.TestCase):
@@ -83,10 +81,6 @@ class Grows(unittest.TestCase):
         self.append("step 0 particles 1 ranks 1\np 1 2\nste")
         self.assertEqual(output.look(), 0)
         self.append("p 1")
-        self.assertEqual(output.look(), 0)
-        self.append("2 parti")
-        self.assertEqual(output.look(), 0)
-        self.append("\nstep 1")
         self.assertEqual(output.look(), 0)
         self.append("2 particles 1 ranks 1\n")
         self.assertEqual(output.look(), 12)

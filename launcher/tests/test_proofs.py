@@ -4,12 +4,14 @@ from __future__ import annotations
 
 import fcntl
 import os
+import pty
 import signal
 import subprocess
 import time
 from typing import Dict, List
 
 from launcher import machine
+from launcher.tests import house
 from launcher.tests.house import PROGRAM, House
 
 STUB = "print('ran', sys.argv[1:])"
@@ -55,6 +57,18 @@ class Proofs(House):
         self.assertEqual(lines[0], "fdps: proving and building the program; fdps --unproved runs it at once, unproved")
         self.assertEqual(lines[1], "fdps: low proved, crate 1 of 5, 0 min so far")
         self.assertEqual(lines[5:], ["fdps: fdps_cli proved, crate 5 of 5, 0 min so far"])
+
+    def test_one_line_on_a_terminal(self) -> None:
+        master, slave = pty.openpty()
+        how = {"cwd": self.folder, "env": {**self.environment(HOLD="0.5"), "TERM": "xterm"}, "stdout": subprocess.DEVNULL}
+        with subprocess.Popen([str(self.top / "fdps")], stderr=slave, **how) as started:
+            os.close(slave)
+            shown = house.all_of(master)
+        self.assertEqual(started.returncode, 0)
+        self.assertIn(b"fdps: 0 of 5 crates proved, 0 min so far, at work: low\x1b[K\x1b[A\r", shown)
+        self.assertIn(b"fdps: 4 of 5 crates proved, 0 min so far, at work: fdps_cli\x1b[K\x1b[A\r", shown)
+        self.assertNotIn(b" proved, crate ", shown)
+        self.assertTrue(shown.endswith(b"\r\x1b[J"), shown)
 
     def test_a_program_that_is_current_is_run_at_once(self) -> None:
         self.prove()
@@ -115,13 +129,16 @@ class Proofs(House):
     def test_a_crate_in_which_rt_works_is_waited_for(self) -> None:
         held = os.open(self.top / "crates" / "left", os.O_RDONLY)
         fcntl.flock(held, fcntl.LOCK_EX)
-        with subprocess.Popen([str(self.top / "fdps")], cwd=self.folder, env=self.environment(), stderr=subprocess.DEVNULL) as started:
+        how = {"cwd": self.folder, "env": self.environment(), "stdout": subprocess.DEVNULL, "stderr": subprocess.PIPE}
+        with subprocess.Popen([str(self.top / "fdps")], **how) as started:
             while "end right" not in self.lines():
                 time.sleep(0.02)
             time.sleep(0.5)
             self.assertNotIn("left", self.begun())
             os.close(held)
-            self.assertEqual(started.wait(20), 0)
+            told = started.communicate(timeout=20)[1].decode()
+        self.assertEqual(started.returncode, 0)
+        self.assertEqual(told.count(f"fdps: waiting for another rt to finish in {self.top}/crates/left\n"), 1)
 
     def test_no_rt_is_told(self) -> None:
         (self.bin / "rt").unlink()
