@@ -2,6 +2,7 @@
 
 from __future__ import annotations
 
+import functools
 import os
 from dataclasses import dataclass
 from pathlib import Path
@@ -27,6 +28,7 @@ class Crate:
                 yield Path(folder)
                 yield from (Path(folder, file) for file in files)
 
+    @functools.lru_cache(maxsize=None)
     def lines(self, suffix: str) -> int:
         """The number of lines of its files with this suffix."""
         return sum(it.read_bytes().count(b"\n") for it in self.texts() if it.suffix == suffix and it.is_file())
@@ -52,16 +54,19 @@ class Repository:
 
     def below(self, name: str) -> List[Crate]:
         """The crates that the named one stands on, lowest first."""
-        found: Dict[str, Crate] = {}
+        found: List[Crate] = []
+        # (a ring of crates is left to whoever proves them)
+        seen = {name}
 
         def visit(crate: Crate) -> None:
             for use in crate.uses:
-                if use in self.crates and use not in found and use != name:
+                if use in self.crates and use not in seen:
+                    seen.add(use)
                     visit(self.crates[use])
-                    found[use] = self.crates[use]
+                    found.append(self.crates[use])
 
         visit(self.crates[name])
-        return list(found.values())
+        return found
 
     def is_current(self, name: str, program: Path) -> bool:
         """Whether the program is there, and no text that it is made of was changed, added or taken away since it was built."""

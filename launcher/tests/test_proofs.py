@@ -140,6 +140,12 @@ class Proofs(House):
         self.assertEqual(started.returncode, 0)
         self.assertEqual(told.count(f"fdps: waiting for another rt to finish in {self.top}/crates/left\n"), 1)
 
+    def test_a_ring_is_told(self) -> None:
+        self.list_crates("low: high\nhigh: low\nfdps_cli: high\n")
+        status, _, told = self.fdps(env=self.environment())
+        self.assertEqual((status, self.begun()), (1, []))
+        self.assertIn("crates stand on one another in a ring", told)
+
     def test_no_rt_is_told(self) -> None:
         (self.bin / "rt").unlink()
         env = {**self.environment(), "PATH": "/usr/bin:/bin"}
