@@ -1,0 +1,1 @@
+"""Pictures and tables of dumps, by numpy and matplotlib."""
