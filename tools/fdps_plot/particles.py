@@ -78,7 +78,7 @@ class Particles(View):
 
     def draw(self) -> Figure:
         frames = self.whole()
-        columns = min(len(frames), 4 if len(frames) > 4 else 3) if len(frames) != 4 else 2
+        columns = {4: 2, 7: 4, 8: 4}.get(len(frames), min(len(frames), 3 if len(frames) < 10 else 4))
         rows = math.ceil(len(frames) / columns)
         side = 6 if columns == 1 else 3.6 if columns == 2 else 3
         window, shades = window_of(frames, self.look), shades_of(frames, self.look)
