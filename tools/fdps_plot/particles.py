@@ -168,11 +168,12 @@ def scatter(
 ) -> PathCollection:
     """Draws a frame."""
     size = min(max(20000 / max(len(frame.points), 1), 0.3), 12)
-    colours = frame.colours % 10 if look.colour == "owner" else frame.colours
-    style = {"c": "black"} if colours is None else {
-        "c": colours, "cmap": COLOURS if look.colour == "owner" else SHADES, "vmin": shades[0], "vmax": shades[1],
-    }
-    points = axes.scatter(frame.points[:, 0], frame.points[:, 1], s=size, linewidths=0, **style)
+    points = axes.scatter(frame.points[:, 0], frame.points[:, 1], s=size, linewidths=0, c="black")
+    if frame.colours is not None and shades is not None:
+        owners = look.colour == "owner"
+        points.set_array(frame.colours % 10 if owners else frame.colours)
+        points.set_cmap(COLOURS if owners else SHADES)
+        points.set_clim(*shades)
     axes.set_xlim(*window[0])
     axes.set_ylim(*window[1])
     axes.set_aspect("equal")

@@ -98,7 +98,7 @@ class Dump:
         return Step(number, self.offset, self.line, head, lines[:ranks], lines[ranks:])
 
     def judge(self, lines: List[bytes], ranks: int) -> None:
-        """Refuses lines that no step has. All are looked at shortly, and those of ranks and the first particle closely."""
+        """Refuses lines that no step has: all are looked at, those of ranks and of the first particle closely."""
         for place, line in enumerate(lines[:ranks]):
             match = RANK.fullmatch(line)
             if match is None or int(match.group(1)) != place:

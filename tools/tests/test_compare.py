@@ -96,7 +96,8 @@ class Compare(ToolTest):
         self.assertEqual(self.says(step(5, ONE, TWO)), "step 0 against step 5\n")
 
     def test_trouble(self) -> None:
-        self.assertIn("line 3 is none of a dump", self.trouble("compare", self.a, self.write("b", WHOLE.replace("p 1", "q 1"))))
+        other = self.write("b", WHOLE.replace("p 1", "q 1"))
+        self.assertIn("line 3 is none of a dump", self.trouble("compare", self.a, other))
         self.assertIn("line 1 is none of a dump", self.trouble("compare", self.write("b", "hello"), self.a))
         self.assertIn("No such file", self.trouble("compare", self.a, self.path("nothing")))
         narrow = self.write("narrow", "FORCE vec S16 acc sum;")

@@ -79,11 +79,13 @@ class Dumps(ToolTest):
         self.assertIn("its ids aren't those", self.trouble("dump", "particles", "3", self.whole, other))
 
     def test_no_dump(self) -> None:
-        self.assertIn("line 2 is none of a dump", self.trouble("dump", "steps", self.write("b", "step 0 particles 0 ranks 1\nrank 1\n")))
+        other = self.write("other", "step 0 particles 0 ranks 1\nrank 1\n")
+        self.assertIn("line 2 is none of a dump", self.trouble("dump", "steps", other))
 
     def test_a_run_from_a_builds_particles_goes_on_as_it_was(self) -> None:
         self.run_deck(self.deck_of("binary-orbit", steps="40"))
-        self.tool("dump", "particles", "30", self.path("dump"), "examples/binary-orbit/two.particles", "-o", self.path("p"))
+        inputs = "examples/binary-orbit/two.particles"
+        self.tool("dump", "particles", "30", self.path("dump"), inputs, "-o", self.path("p"))
         self.tool("dump", "thin", "40", self.path("dump"), "-o", self.path("forty"))
         self.run_deck(self.deck_of("binary-orbit", steps="10", particles=self.path("p")))
         last = self.tool("dump", "last", self.path("dump"), self.path("deck"))

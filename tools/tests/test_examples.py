@@ -35,7 +35,8 @@ class Runs(ToolTest):
     def test_the_first_pull(self) -> None:
         self.run_deck(self.deck_of("first-pull"))
         (rows,) = self.steps()
-        self.assertEqual(rows, [[1, 0, 0, 0, 0, 0, 0, 0, 0, 0, 0, 3, 4, 0], [2, 0, 3, 4, 0, 0, 0, 0, 0, 0, 0, -3, -4, 0]])
+        first, second = [1, 0, 0, 0, 0, 0, 0, 0, 0, 0, 0, 3, 4, 0], [2, 0, 3, 4, 0, 0, 0, 0, 0, 0, 0, -3, -4, 0]
+        self.assertEqual(rows, [first, second])
 
     def test_a_spring_keeps_two_opposite_each_other(self) -> None:
         # Equal masses: the velocities are opposite, and the distance goes from 1.5 of the rest to less than the rest.
@@ -91,7 +92,7 @@ class Pages(unittest.TestCase):
 
     def test_pictures_are_small_and_shown(self) -> None:
         pictures = sorted((TOP / "docs" / "pictures").glob("*.png"))
-        pages = "".join(path.read_text() for path in [*TOP.glob("*.md"), *TOP.glob("docs/*.md"), *TOP.glob("examples/*/*.md")])
+        pages = "".join(page.read_text() for part in ("", "docs/", "examples/*/") for page in TOP.glob(f"{part}*.md"))
         self.assertTrue(pictures)
         for picture in pictures:
             self.assertLess(picture.stat().st_size, MOST_PICTURE, picture.name)

@@ -9,7 +9,13 @@ from typing import Dict, List
 from .support import KERNEL, RANK, ToolTest, missing_module, step
 
 MISSING = missing_module()
-OPENED = "import sys; from PIL import Image; i = Image.open(sys.argv[1]); i.load(); print(i.format, getattr(i, 'n_frames', 1))"
+OPENED = """
+import sys
+from PIL import Image
+image = Image.open(sys.argv[1])
+image.load()
+print(image.format, getattr(image, "n_frames", 1))
+"""
 HALF = 1 << 29
 
 
@@ -23,7 +29,8 @@ class Plot(ToolTest):
 
     def opened(self, name: str) -> str:
         """What an opened picture is, and how many frames it has."""
-        done = subprocess.run(["/usr/bin/python3", "-c", OPENED, self.path(name)], stdout=subprocess.PIPE, text=True, check=True)
+        words = ["/usr/bin/python3", "-c", OPENED, self.path(name)]
+        done = subprocess.run(words, stdout=subprocess.PIPE, text=True, check=True)
         return done.stdout.strip()
 
     def table(self, dump: str, *words: str) -> List[Dict[str, str]]:
@@ -65,7 +72,8 @@ class Plot(ToolTest):
         kernel = self.write("k", "FORCE vec S16 acc sum; FORCE num S0 n sum; PARAM S16 g = 131072; PARAM S0 e = 44;")
         particles = self.write("p", "particles 1\ncount 2\n7 0 0 0 0 0 0 3 0 0 0 0\n1 0 0 0 0 0 0 2 0 0 0 0\n")
         rows = self.table(self.dump_of_two(), "--show", "energy", "--kernel", kernel, "--particles", particles)
-        self.assertEqual([float(rows[1][name]) for name in ("step", "kinetic", "potential", "total")], [1, 2.5, -1.0, 1.5])
+        names = ("step", "kinetic", "potential", "total")
+        self.assertEqual([float(rows[1][name]) for name in names], [1, 2.5, -1.0, 1.5])
 
     def test_momentum_by_hand(self) -> None:
         particles = self.write("p", "particles 1\ncount 2\n7 0 0 0 0 0 0 3 0 0 0 0\n1 0 0 0 0 0 0 2 0 0 0 0\n")
@@ -88,12 +96,14 @@ class Plot(ToolTest):
         self.assertEqual({(row["px"], row["py"], row["pz"]) for row in moved}, {("0.0", "0.0", "0.0")})
 
     def test_trouble(self) -> None:
-        dump = self.dump_of_two()
-        self.assertIn(".png", self.trouble("plot", dump, "-o", self.path("x.jpg")))
-        self.assertIn("no particle 2", self.trouble("plot", dump, "-o", self.path("x.png"), "--show", "path", "--ids", "2"))
-        self.assertIn("no whole step 9", self.trouble("plot", dump, "-o", self.path("x.png"), "--steps", "9"))
-        self.assertIn("--kernel", self.trouble("plot", dump, "-o", self.path("x.png"), "--show", "energy"))
-        kernel = self.write("k", KERNEL)
-        self.assertIn("no such number", self.trouble("plot", dump, "-o", self.path("x.png"), "--kernel", kernel, "--colour", "far"))
+        dump, kernel = self.dump_of_two(), self.write("k", KERNEL)
+        for word, words in (
+            ("no particle 2", ["--show", "path", "--ids", "2"]),
+            ("no whole step 9", ["--steps", "9"]),
+            ("--kernel", ["--show", "energy"]),
+            ("no such number", ["--kernel", kernel, "--colour", "far"]),
+        ):
+            self.assertIn(word, self.trouble("plot", dump, "-o", self.path("x.png"), *words))
         self.assertIn("no whole step", self.trouble("plot", self.write("none", ""), "-o", self.path("x.png")))
         self.assertFalse((self.folder / "x.png").exists())
+        self.assertIn(".png", self.trouble("plot", dump, "-o", self.path("x.jpg")))
