@@ -60,6 +60,11 @@ class Compare(ToolTest):
         )
         self.is_equal(other, "--physics")
 
+    def test_owners_beside_another_difference_arent_physics(self) -> None:
+        other = step(0, ONE.replace("1 0 10", "1 3 11", 1), TWO)
+        said = self.says(other, "--physics")
+        self.assertEqual(said, "step 0 id 1 x: 10 against 11\nstep 0 x: 1 of 2 particles differ, by at most 1\n")
+
     def test_rank_lines_are_named_and_arent_physics(self) -> None:
         other = step(0, ONE, TWO) + step(1, ONE, TWO, ranks=[RANK.replace("listparts 2", "listparts 5")])
         self.assertEqual(self.says(other), "step 1 rank 0: listparts 2 against 5\n")

@@ -2,7 +2,12 @@
 
 from __future__ import annotations
 
-from .support import ToolTest, step
+import argparse
+import runpy
+
+from fdps_texts.trouble import Trouble
+
+from .support import TOOLS, ToolTest, step
 
 ROWS = ("1 0 10 20 30 1 2 3 0 0 0", "4294967295 0 40 50 60 -4 5 6 0 0 0")
 STEPS = [step(number, *ROWS) for number in range(6)]
@@ -41,6 +46,16 @@ class Dumps(ToolTest):
     def test_last_of_a_dump_without_a_build(self) -> None:
         odd = self.write("odd", STEPS[1] + STEPS[3])
         self.assertIn("no whole step", self.trouble("dump", "last", odd, self.deck, "-o", self.path("out")))
+        self.assertFalse((self.folder / "out").exists())
+
+    def test_last_of_a_step_that_no_restart_reads(self) -> None:
+        # A restart reads 2^28 bytes; here a few, since a step that long takes minutes to make.
+        tool = runpy.run_path(str(TOOLS / "dump"))
+        tool["last"].__globals__["MOST_RESTART"] = len(STEPS[4]) - 1
+        words = argparse.Namespace(dump=self.cut, deck=self.deck, output=self.path("out"))
+        with self.assertRaises(Trouble) as raised:
+            tool["last"](words)
+        self.assertIn(f"step 4 has {len(STEPS[4])} bytes", str(raised.exception))
         self.assertFalse((self.folder / "out").exists())
 
     def test_join_gives_the_whole(self) -> None:
