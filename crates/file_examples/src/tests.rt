@@ -1,3 +1,0 @@
-mod decks;
-mod particles;
-mod words;
