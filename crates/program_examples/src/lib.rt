@@ -1,5 +1,5 @@
-// The program by worked examples: words and files in memory, the answer, the dumps and the said line. Tests alone, over
-// the public function that the program calls.
+// The program and its stores by worked examples that are no texts: many particles, calls that fail in turn, threads and
+// real files. Tests alone, over the public function that the program calls and those of pf_io.
 #![tactic(auto)]
 
 #[cfg(test)]

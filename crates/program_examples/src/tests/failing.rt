@@ -1,9 +1,13 @@
-// A run of three dumps over stores that fail at some call, or that move one byte at a time.
+// A run of three dumps over stores that fail at each call in turn.
 
-use super::program::{Inputs, WHOLE, run};
+ghost use Rattle.std.specs.Prelude.{◌<◌};
+
+use super::program::{Inputs, WHOLE, run_failing};
 use example_kernels::PULL;
+use std::sync::Wait;
 use std::test::Fail;
-use top_call::{Status, code, said_line};
+use std::thread::Threads;
+use top_call::{code, said_line};
 
 const INPUTS: Inputs<'static> = Inputs {
     settings: "steps 2\n",
@@ -11,7 +15,7 @@ const INPUTS: Inputs<'static> = Inputs {
     particles: "particles 1\ncount 1\n5 10 0 0 65536 0 0 1 0 0 0 0\n",
 };
 
-const DUMPS: &[u8] = b"step 0 particles 1 ranks 1\n\
+const DUMPS: &str = "step 0 particles 1 ranks 1\n\
     rank 0 particles 1 groups 1 cells 0 parts 0 listcells 0 listparts 1\n\
     p 5 0 10 0 0 65536 0 0 0 0 0 0 0 0\n\
     step 1 particles 1 ranks 1\n\
@@ -21,82 +25,93 @@ const DUMPS: &[u8] = b"step 0 particles 1 ranks 1\n\
     rank 0 particles 1 groups 1 cells 0 parts 0 listcells 0 listparts 1\n\
     p 5 0 12 0 0 65536 0 0 0 0 0 0 0 0\n";
 
-// The length of one dump of these.
-const DUMP: usize = 27 + 68 + 35;
-
-// What is said where each call of the run fails, in order: three inputs, the output, and its three dumps.
-const LINES: [&str; 13] = [
-    "fdps: store: open failed\n",
-    "fdps: store: read failed\n",
-    "fdps: store: read failed\n",
-    "fdps: store: open failed\n",
-    "fdps: store: read failed\n",
-    "fdps: store: read failed\n",
-    "fdps: store: open failed\n",
-    "fdps: store: read failed\n",
-    "fdps: store: read failed\n",
-    "fdps: store: create failed\n",
-    "fdps: store: write failed\n",
-    "fdps: store: write failed\n",
-    "fdps: store: write failed\n",
+// What is said where each call of the run fails, in order, and how many bytes of its dumps, which have 27 + 68 + 35
+// each, are there: three inputs, the output, and the dumps.
+const CALLS: [(&str, usize); 13] = [
+    ("fdps: store: open failed\n", 0),
+    ("fdps: store: read failed\n", 0),
+    ("fdps: store: read failed\n", 0),
+    ("fdps: store: open failed\n", 0),
+    ("fdps: store: read failed\n", 0),
+    ("fdps: store: read failed\n", 0),
+    ("fdps: store: open failed\n", 0),
+    ("fdps: store: read failed\n", 0),
+    ("fdps: store: read failed\n", 0),
+    ("fdps: store: create failed\n", 0),
+    ("fdps: store: write failed\n", 0),
+    ("fdps: store: write failed\n", 130),
+    ("fdps: store: write failed\n", 260),
 ];
+
+// The first call that, where it fails, doesn't end the run in a fault of the store, with its line and its dumps.
+fn first_other(
+    rt: &(impl Threads + Wait + Sync + AllocGlobal),
+    calls: &[(&str, usize)],
+) -> Result<Option<usize>, Fail> {
+    for (place, (line, written)) in calls.iter().enumerate() {
+        let ran = run_failing(rt, INPUTS, place as u64 + 1, WHOLE)?;
+        let output = ran.store.contents("o").unwrap_or(b"");
+        let is_there = DUMPS.as_bytes().get(..*written) == Some(output);
+        if !is_there || code(&ran.status) != 6 || ran.store.said() != line.as_bytes() {
+            return Ok(Some(place));
+        }
+    }
+    Ok(None)
+}
+
+// Whether the run is done with all its dumps where no call has this number.
+fn is_done_without(
+    rt: &(impl Threads + Wait + Sync + AllocGlobal),
+    number: u64,
+    most: usize,
+) -> Result<bool, Fail>
+    requires { 0 < most }
+{
+    Ok(run_failing(rt, INPUTS, number, most)?.left(0, "", Some(DUMPS)))
+}
 
 #[test]
 fn a_call_that_fails_is_named_and_ends_the_run(rt: HostRuntime) -> Result<(), Fail> {
-    for (place, line) in LINES.iter().enumerate() {
-        let ran = run(&rt, INPUTS, &[place as u64 + 1], WHOLE)?;
-        assert_eq!(rt; code(&ran.status), 6, "call {place}");
-        assert_eq!(rt; ran.store.said(), line.as_bytes(), "call {place}");
-        let written = place.saturating_sub(10) * DUMP;
-        let output = ran.store.contents("o").unwrap_or(b"");
-        assert_eq!(rt; output, &DUMPS[..written], "call {place}");
-    }
-    let ran = run(&rt, INPUTS, &[14], WHOLE)?;
-    assert_eq!(rt; ran.status, Status::Done);
-    assert_eq!(rt; ran.store.contents("o"), Some(DUMPS));
+    assert_eq!(rt; first_other(&rt, &CALLS)?, None);
     Ok(())
 }
 
 #[test]
-fn one_byte_at_a_time_gives_the_same_dumps(rt: HostRuntime) -> Result<(), Fail> {
-    let ran = run(&rt, INPUTS, &[], 1)?;
-    assert_eq!(rt; ran.status, Status::Done);
-    assert_eq!(rt; ran.store.contents("o"), Some(DUMPS));
+fn there_are_no_other_calls(rt: HostRuntime) -> Result<(), Fail> {
+    assert!(rt; is_done_without(&rt, 14, WHOLE)?);
     Ok(())
 }
 
 // By sevens, the deck is read in 5 calls, the kernel in 15 and the particles in 7, each with one more at its end, and
 // each of the three dumps is written in 19. Each input is opened, and the output created.
-const CALLS: u64 = 5 + 15 + 7 + 3 + 3 * 19 + 3 + 1;
+const PIECES: u64 = 5 + 15 + 7 + 3 + 3 * 19 + 3 + 1;
+
+// The first of so many calls that moves at most seven bytes and, where it fails, doesn't end the run in a fault of the
+// store that its line names, after a part of the dumps.
+fn first_unnamed(
+    rt: &(impl Threads + Wait + Sync + AllocGlobal),
+    calls: u64,
+) -> Result<Option<u64>, Fail> {
+    for number in 1..=calls {
+        let ran = run_failing(rt, INPUTS, number, 7)?;
+        let line = said_line(rt.alloc(), &ran.status)?;
+        let output = ran.store.contents("o").unwrap_or(b"");
+        let is_part = DUMPS.as_bytes().starts_with(output);
+        if !is_part || code(&ran.status) != 6 || ran.store.said() != line.as_slice() {
+            return Ok(Some(number));
+        }
+    }
+    Ok(None)
+}
 
 #[test]
 fn each_call_that_moves_a_piece_ends_the_run_where_it_fails(rt: HostRuntime) -> Result<(), Fail> {
-    let alloc = rt.alloc();
-    for number in 1..=CALLS {
-        let ran = run(&rt, INPUTS, &[number], 7)?;
-        assert_eq!(rt; code(&ran.status), 6, "call {number}");
-        let line = said_line(alloc, &ran.status)?;
-        assert_eq!(rt; ran.store.said(), line.as_slice(), "call {number}");
-        let output = ran.store.contents("o").unwrap_or(b"");
-        assert!(rt; DUMPS.starts_with(output), "call {number}");
-    }
-    let ran = run(&rt, INPUTS, &[CALLS + 1], 7)?;
-    assert_eq!(rt; ran.status, Status::Done);
-    assert_eq!(rt; ran.store.contents("o"), Some(DUMPS));
+    assert_eq!(rt; first_unnamed(&rt, PIECES)?, None);
     Ok(())
 }
 
 #[test]
-fn a_line_that_cannot_be_said_leaves_the_status(rt: HostRuntime) -> Result<(), Fail> {
-    let escaping = Inputs {
-        particles: "particles 1\ncount 1\n1 1073741823 0 0 65536 0 0 1 0 0 0 0\n",
-        ..INPUTS
-    };
-    // Three inputs are read, the output is created, and the dump of step 0 written: then the line is said.
-    let ran = run(&rt, escaping, &[12], WHOLE)?;
-    assert_eq!(rt; code(&ran.status), 4);
-    assert!(rt; ran.store.said().is_empty());
-    let ran = run(&rt, escaping, &[11], WHOLE)?;
-    assert_eq!(rt; ran.store.said(), b"fdps: store: write failed\n".as_slice());
+fn there_are_no_other_calls_that_move_pieces(rt: HostRuntime) -> Result<(), Fail> {
+    assert!(rt; is_done_without(&rt, PIECES + 1, 7)?);
     Ok(())
 }

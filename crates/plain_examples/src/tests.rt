@@ -1,4 +1,0 @@
-mod faults;
-mod forces;
-mod inputs;
-mod steps;

@@ -1,5 +1,0 @@
-mod decimals;
-mod files;
-mod gates;
-mod memory;
-mod signals;
