@@ -1,9 +1,13 @@
--- The ids of the three particles of the examples.
-use Rattle.std.proofs.Common.{ℕ, ◌≡◌, List, [], ◌∷◌, refl, sym, subst, lit<}
-use Rattle.std.specs.List.{Contains}
+-- The ids of the bodies of the examples.
+use Rattle.std.proofs.Common.{◌≢◌, ℕ, [], ◌∷◌}
+use Rattle.std.specs.List.{IsDistinct}
+use Rattle.std.specs.Prelude.{nat_eq}
+use Rattle.std.proofs.lemmas.Bool.{ne_eqb}
 
-pub has_three : (ids : List ℕ) → ids ≡ 1 ∷ 2 ∷ 3 ∷ [] → Contains ids 3
-has_three ids e = subst (λ (l : List ℕ). Contains l 3) (sym e) (2, lit< tt, refl)
+pub two_differ : (a b : ℕ) → a ≢ b → IsDistinct nat_eq (a ∷ b ∷ [])
+unfolding IsDistinct
+two_differ a b p = ((ne_eqb a b p, tt), (tt, tt))
 
-pub has_two : (ids : List ℕ) → ids ≡ 1 ∷ 2 ∷ 3 ∷ [] → Contains ids 2
-has_two ids e = subst (λ (l : List ℕ). Contains l 2) (sym e) (1, lit< tt, refl)
+pub three_differ : (a b c : ℕ) → a ≢ b → a ≢ c → b ≢ c → IsDistinct nat_eq (a ∷ b ∷ c ∷ [])
+unfolding IsDistinct
+three_differ a b c p q r = ((ne_eqb a b p, (ne_eqb a c q, tt)), ((ne_eqb b c r, tt), (tt, tt)))

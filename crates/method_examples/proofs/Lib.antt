@@ -1,1 +1,4 @@
 pub mod Ids
+pub mod Owned
+pub mod Ranks
+pub mod TwoRanks

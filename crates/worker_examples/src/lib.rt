@@ -1,6 +1,8 @@
-// Worked examples of ranks driven by workers, in one thread and in several: tests alone, over the public function
-// of rank_workers.
+// Worked examples of what threads share: boards, inboxes and ranks driven by workers, in one thread and in several.
+// Tests alone, over the public functions of claim_board, let_inbox, all_to_all and rank_workers.
 #![tactic(auto)]
 
+#[cfg(test)]
+mod desks;
 #[cfg(test)]
 mod tests;

@@ -1,10 +1,11 @@
 ghost use Rattle.std.specs.Prelude.{◌≡◌, length};
 ghost use Rattle.pf_model.specs.Particles.{AreBodies};
 
-use super::bodies::two_close_and_one_far;
+use super::bodies::{TWO_CLOSE_AND_ONE_FAR, list, particles};
 use pf_geom::Edge;
 use pf_model::{Body, Build, Grid, Terms, Theta};
 use std::marker::Brand;
+use std::test::Fail;
 
 // How many particles there are, in the terms T.
 fn count_in<T: Terms>(build: Build<'_>) -> usize
@@ -24,7 +25,7 @@ fn count(bodies: &[Body], grid: Grid, theta: Theta) -> usize
 }
 
 #[test]
-fn terms_are_named_at_run_time(rt: HostRuntime) {
+fn terms_are_named_at_run_time(rt: HostRuntime) -> Result<(), Fail> {
     let grid = Grid {
         nx: 2,
         ny: 1,
@@ -35,6 +36,7 @@ fn terms_are_named_at_run_time(rt: HostRuntime) {
         b: 2,
         edge: Edge::Open,
     };
-    let bodies = two_close_and_one_far();
-    assert_eq!(rt; count(&bodies, grid, theta), 3);
+    let three = particles(rt.alloc(), &TWO_CLOSE_AND_ONE_FAR)?;
+    assert!(rt; count(list(&three), grid, theta) == 3);
+    Ok(())
 }

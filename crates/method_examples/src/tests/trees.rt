@@ -1,195 +1,245 @@
-ghost use Rattle.std.specs.Prelude.{◌≡◌, ◌≢◌, ◌^◌, ◌<◌, ◌≤◌, IfOk};
+ghost use Rattle.std.specs.Prelude.{◌<◌, ◌≤◌, IfOk};
 ghost use Rattle.morton_tree.specs.Tree.{IsUnmoved};
 
-use super::bodies::{body, halfway};
+use super::bodies::{Row, TURNED, are_bodies, halfway, list, particles};
+use super::entries::has_sums;
 use moments::centre;
 use morton_tree::{Group, Span, Tree};
-use pf_geom::{Box3, Cell, Point};
-use pf_model::Body;
+use pf_geom::{Cell, DEEPEST, Point};
+use pf_model::MOST_GROUP;
 use pf_num::OutOfMemory;
 use std::alloc::Global;
 use std::test::Fail;
 use std::thread::Threads;
 
-fn at(x: u32) -> Point
-    requires { x < 2 ^ 30 }
-    ensures { result ≡ record { x = x; y = 0; z = 0 } }
-{
-    Point { x, y: 0, z: 0 }
+pub fn is_on_axis(p: Point, x: u32) -> bool {
+    p.x == x && p.y == 0 && p.z == 0
 }
 
-fn tree_of(
-    rt: &(impl Threads + Sync),
-    alloc: Global,
-    a: Body,
-    b: Body,
-    c: Body,
-) -> Result<Tree, OutOfMemory>
-    requires a_and_b_differ { a.id ≢ b.id }
-    requires a_and_c_differ { a.id ≢ c.id }
-    requires b_and_c_differ { b.id ≢ c.id }
+pub fn goes_between_threads<T: Send + Sync>(_value: &T) {}
+
+fn tree_of(rt: &(impl Threads + Sync), alloc: Global, rows: &[Row]) -> Result<Tree, Fail>
     ensures { IfOk result (λ tree. IsUnmoved tree) }
 {
-    Tree::build(rt, alloc, Vec::from_array(alloc, [a, b, c])?)
+    let all = particles(alloc, rows)?;
+    let own = Vec::from_slice(alloc, list(&all))?;
+    Ok(Tree::build(rt, alloc, own)?)
 }
 
-// Three bodies on the x axis, two of them close together.
-fn two_close_and_one_far(rt: &(impl Threads + Sync), alloc: Global) -> Result<Tree, OutOfMemory>
-    ensures { IfOk result (λ tree. IsUnmoved tree) }
-{
-    tree_of(
-        rt,
-        alloc,
-        body(3, 1048581, 3),
-        body(1, 0, 1),
-        body(2, 1048576, 1),
-    )
-}
+const OUT_OF_ORDER: [Row; 3] = [(9, [5, 0, 0], 1), (4, [5, 0, 0], 1), (7, [2, 0, 0], 1)];
 
-fn group(cell: Cell, first: u32, len: u32, from: u32, to: u32) -> Group
-    requires in_cube { to < 2 ^ 30 }
-    requires ordered { from ≤ to }
-{
-    Group {
-        cell,
-        span: Span { first, len },
-        around: Box3 {
-            lo: at(from),
-            hi: at(to),
-        },
-    }
-}
-
-fn goes_between_threads<T: Send + Sync>(_value: &T) {}
+const IN_ORDER: [Row; 3] = [(7, [2, 0, 0], 1), (4, [5, 0, 0], 1), (9, [5, 0, 0], 1)];
 
 #[test]
 fn bodies_stand_in_order_of_key_and_then_id(rt: HostRuntime) -> Result<(), Fail> {
-    let tree = tree_of(&rt, rt.alloc(), body(9, 5, 1), body(4, 5, 1), body(7, 2, 1))?;
-    let expected = [body(7, 2, 1), body(4, 5, 1), body(9, 5, 1)];
-    assert_eq!(rt; tree.bodies(), expected.as_slice());
+    let tree = tree_of(&rt, rt.alloc(), &OUT_OF_ORDER)?;
+    assert!(rt; are_bodies(tree.bodies(), &IN_ORDER));
     goes_between_threads(&tree);
     Ok(())
 }
 
+const KEYS: [u128; 3] = [0, 1 << 62, (1 << 62) + 260];
+
 #[test]
 fn a_tree_keeps_the_keys_of_its_bodies(rt: HostRuntime) -> Result<(), Fail> {
-    let tree = two_close_and_one_far(&rt, rt.alloc())?;
-    assert_eq!(rt; tree.keys(), [0, 1 << 62, (1 << 62) + 260].as_slice());
+    let tree = tree_of(&rt, rt.alloc(), &TURNED)?;
+    assert!(rt; tree.keys() == KEYS.as_slice());
+    Ok(())
+}
+
+// Whether spans begin at these places and have so many.
+pub fn are_spans(spans: &[Span], wanted: &[(u32, u32)]) -> bool {
+    if spans.len() != wanted.len() {
+        return false;
+    }
+    for i in 0..wanted.len() {
+        let (first, len) = wanted[i];
+        if spans[i] != (Span { first, len }) {
+            return false;
+        }
+    }
+    true
+}
+
+// The cell of the two that are close together.
+const PAIR: Cell = Cell { level: 10, key: 4 };
+
+// Whether that cell has the last two bodies of the tree, with this sum along x and this centre.
+fn has_pair(tree: &Tree, weighted: u128, x: u32) -> bool {
+    let pair = tree.node(PAIR);
+    let moment = tree.moment(pair);
+    pair == (Span { first: 1, len: 2 })
+        && moment.count > 0
+        && has_sums(&moment, 2, 4, [weighted, 0, 0])
+        && is_on_axis(centre(&moment), x)
+}
+
+#[test]
+fn a_cell_has_the_moment_of_its_bodies(rt: HostRuntime) -> Result<(), Fail> {
+    let tree = tree_of(&rt, rt.alloc(), &TURNED)?;
+    assert!(rt; has_pair(&tree, 4194319, 1048579));
+    Ok(())
+}
+
+// The three bodies, once each has gone half the way to the origin.
+const HALFWAY: [Row; 3] = [
+    (1, [0, 0, 0], 1),
+    (2, [524288, 0, 0], 1),
+    (3, [524290, 0, 0], 3),
+];
+
+// Moves the bodies of a tree half the way to the origin.
+fn go_halfway(alloc: Global, tree: &mut Tree) -> Result<(), OutOfMemory> {
+    let now = halfway(alloc, tree.bodies())?;
+    tree.moved(&now);
     Ok(())
 }
 
 #[test]
 fn bodies_that_moved_keep_the_spans_of_the_build(rt: HostRuntime) -> Result<(), Fail> {
-    let mut tree = two_close_and_one_far(&rt, rt.alloc())?;
-    let now = halfway(rt.alloc(), tree.bodies())?;
-    tree.moved(&now);
-    let present = [body(1, 0, 1), body(2, 524288, 1), body(3, 524290, 3)];
-    assert_eq!(rt; tree.bodies(), present.as_slice());
-    assert_eq!(rt; tree.keys(), [0, 1 << 62, (1 << 62) + 260].as_slice());
-    let pair = tree.node(Cell { level: 10, key: 4 });
-    assert_eq!(rt; pair, Span { first: 1, len: 2 });
-    let moment = tree.moment(pair);
-    assert!(rt; moment.count == 2);
-    assert_eq!(rt; moment.mass, 4);
-    assert_eq!(rt; moment.weighted, [2097158, 0, 0]);
-    assert_eq!(rt; centre(&moment), at(524289));
+    let mut tree = tree_of(&rt, rt.alloc(), &TURNED)?;
+    go_halfway(rt.alloc(), &mut tree)?;
+    assert!(rt; are_bodies(tree.bodies(), &HALFWAY));
+    assert!(rt; tree.keys() == KEYS.as_slice());
+    assert!(rt; has_pair(&tree, 2097158, 524289));
     Ok(())
 }
 
-#[test]
-fn a_cell_has_the_moment_of_its_bodies(rt: HostRuntime) -> Result<(), Fail> {
-    let tree = two_close_and_one_far(&rt, rt.alloc())?;
-    let pair = tree.node(Cell { level: 10, key: 4 });
-    assert_eq!(rt; pair, Span { first: 1, len: 2 });
-    let moment = tree.moment(pair);
-    assert!(rt; moment.count == 2);
-    assert_eq!(rt; moment.mass, 4);
-    assert_eq!(rt; moment.weighted, [4194319, 0, 0]);
-    assert_eq!(rt; centre(&moment), at(1048579));
-    Ok(())
+// Whether the children of a cell, found with its span and without, have these spans in a tree of the three bodies.
+fn has_children(
+    rt: &(impl Threads + Sync),
+    alloc: Global,
+    cell: Cell,
+    wanted: &[(u32, u32)],
+) -> Result<bool, Fail>
+    requires { cell.level < DEEPEST }
+{
+    let tree = tree_of(rt, alloc, &TURNED)?;
+    Ok(
+        are_spans(&tree.children(cell), wanted)
+            && are_spans(&tree.children_in(cell, tree.node(cell)), wanted),
+    )
 }
+
+const OF_ALL: [(u32, u32); 8] = [
+    (0, 1),
+    (1, 0),
+    (1, 0),
+    (1, 0),
+    (1, 2),
+    (3, 0),
+    (3, 0),
+    (3, 0),
+];
 
 #[test]
 fn the_spans_of_children_follow_one_another(rt: HostRuntime) -> Result<(), Fail> {
-    let tree = two_close_and_one_far(&rt, rt.alloc())?;
-    let [first, second, third, fourth, fifth, sixth, seventh, last] = tree.children(Cell {
-        level: 9,
-        key: 0,
-    });
-    assert_eq!(rt; first, Span { first: 0, len: 1 });
-    assert_eq!(rt; [second, third, fourth], [Span { first: 1, len: 0 }; 3]);
-    assert_eq!(rt; fifth, Span { first: 1, len: 2 });
-    assert_eq!(rt; [sixth, seventh, last], [Span { first: 3, len: 0 }; 3]);
+    let cell = Cell { level: 9, key: 0 };
+    assert!(rt; has_children(&rt, rt.alloc(), cell, &OF_ALL)?);
     Ok(())
 }
 
+const OF_THE_CLOSE: [(u32, u32); 8] = [
+    (1, 1),
+    (2, 0),
+    (2, 0),
+    (2, 0),
+    (2, 1),
+    (3, 0),
+    (3, 0),
+    (3, 0),
+];
+
 #[test]
 fn the_children_of_a_cell_are_found_within_its_span(rt: HostRuntime) -> Result<(), Fail> {
-    let tree = two_close_and_one_far(&rt, rt.alloc())?;
     let near = Cell {
         level: 27,
         key: 1 << 53,
     };
-    let [first, second, third, fourth, fifth, sixth, seventh, last] = tree.children_in(
-        near,
-        tree.node(near),
-    );
-    assert_eq!(rt; first, Span { first: 1, len: 1 });
-    assert_eq!(rt; [second, third, fourth], [Span { first: 2, len: 0 }; 3]);
-    assert_eq!(rt; fifth, Span { first: 2, len: 1 });
-    assert_eq!(rt; [sixth, seventh, last], [Span { first: 3, len: 0 }; 3]);
+    assert!(rt; has_children(&rt, rt.alloc(), near, &OF_THE_CLOSE)?);
     Ok(())
 }
 
 #[test]
 fn the_children_of_an_empty_cell_stand_where_it_does(rt: HostRuntime) -> Result<(), Fail> {
-    let tree = two_close_and_one_far(&rt, rt.alloc())?;
-    let children = tree.children(Cell { level: 10, key: 1 });
-    assert_eq!(rt; children, [Span { first: 1, len: 0 }; 8]);
+    let cell = Cell { level: 10, key: 1 };
+    assert!(rt; has_children(&rt, rt.alloc(), cell, &[(1, 0); 8])?);
     Ok(())
 }
+
+// What a group has to be: the level and the key of its cell, its span, and its box along x.
+type Shown = (u32, u128, (u32, u32), (u32, u32));
+
+fn is_group(group: &Group, shown: &Shown) -> bool {
+    let (level, key, (first, len), (from, to)) = *shown;
+    group.cell.level == level
+        && group.cell.key == key
+        && group.span == (Span { first, len })
+        && is_on_axis(group.around.lo, from)
+        && is_on_axis(group.around.hi, to)
+}
+
+// Whether the groups of these bodies, of at most `limit`, are those shown, in their order.
+fn has_groups(
+    rt: &(impl Threads + Sync),
+    alloc: Global,
+    rows: &[Row],
+    limit: u32,
+    shown: &[Shown],
+) -> Result<bool, Fail>
+    requires some { 1 ≤ limit }
+    requires most { limit ≤ MOST_GROUP }
+{
+    let groups = tree_of(rt, alloc, rows)?.groups(alloc, limit)?;
+    Ok(are_groups(&groups, shown))
+}
+
+fn are_groups(groups: &[Group], shown: &[Shown]) -> bool {
+    if groups.len() != shown.len() {
+        return false;
+    }
+    for i in 0..shown.len() {
+        if !is_group(&groups[i], &shown[i]) {
+            return false;
+        }
+    }
+    true
+}
+
+const OF_ONE: [Shown; 3] = [
+    (10, 0, (0, 1), (0, 0)),
+    (28, 1 << 56, (1, 1), (1048576, 1048576)),
+    (28, (1 << 56) + 4, (2, 1), (1048581, 1048581)),
+];
 
 #[test]
 fn bodies_apart_are_groups_of_their_own(rt: HostRuntime) -> Result<(), Fail> {
-    let groups = two_close_and_one_far(&rt, rt.alloc())?.groups(rt.alloc(), 1)?;
-    let far = Cell { level: 10, key: 0 };
-    let near = Cell {
-        level: 28,
-        key: 1 << 56,
-    };
-    let next = Cell {
-        level: 28,
-        key: (1 << 56) + 4,
-    };
-    let expected = [
-        group(far, 0, 1, 0, 0),
-        group(near, 1, 1, 1048576, 1048576),
-        group(next, 2, 1, 1048581, 1048581),
-    ];
-    assert_eq!(rt; groups.as_slice(), expected.as_slice());
+    assert!(rt; has_groups(&rt, rt.alloc(), &TURNED, 1, &OF_ONE)?);
     Ok(())
 }
+
+const OF_TWO: [Shown; 2] = [(10, 0, (0, 1), (0, 0)), (10, 4, (1, 2), (1048576, 1048581))];
 
 #[test]
 fn bodies_together_are_one_group_within_the_limit(rt: HostRuntime) -> Result<(), Fail> {
-    let tree = two_close_and_one_far(&rt, rt.alloc())?;
-    let pairs = tree.groups(rt.alloc(), 2)?;
-    let expected = [
-        group(Cell { level: 10, key: 0 }, 0, 1, 0, 0),
-        group(Cell { level: 10, key: 4 }, 1, 2, 1048576, 1048581),
-    ];
-    assert_eq!(rt; pairs.as_slice(), expected.as_slice());
-    let all = tree.groups(rt.alloc(), 3)?;
-    let whole = [group(Cell { level: 0, key: 0 }, 0, 3, 0, 1048581)];
-    assert_eq!(rt; all.as_slice(), whole.as_slice());
+    assert!(rt; has_groups(&rt, rt.alloc(), &TURNED, 2, &OF_TWO)?);
     Ok(())
 }
 
+const OF_THREE: [Shown; 1] = [(0, 0, (0, 3), (0, 1048581))];
+
+#[test]
+fn all_bodies_are_one_group_within_the_limit(rt: HostRuntime) -> Result<(), Fail> {
+    assert!(rt; has_groups(&rt, rt.alloc(), &TURNED, 3, &OF_THREE)?);
+    Ok(())
+}
+
+const AT_ONE_PLACE: [Row; 3] = [(2, [0, 0, 0], 1), (1, [0, 0, 0], 1), (3, [0, 0, 0], 1)];
+
+const PAST_THE_LIMIT: [Shown; 1] = [(30, 0, (0, 3), (0, 0))];
+
 #[test]
 fn bodies_at_one_place_are_one_group_past_the_limit(rt: HostRuntime) -> Result<(), Fail> {
-    let tree = tree_of(&rt, rt.alloc(), body(2, 0, 1), body(1, 0, 1), body(3, 0, 1))?;
-    let groups = tree.groups(rt.alloc(), 1)?;
-    let expected = [group(Cell { level: 30, key: 0 }, 0, 3, 0, 0)];
-    assert_eq!(rt; groups.as_slice(), expected.as_slice());
+    assert!(rt; has_groups(&rt, rt.alloc(), &AT_ONE_PLACE, 1, &PAST_THE_LIMIT)?);
     Ok(())
 }

@@ -1,5 +1,0 @@
-mod absorbing;
-mod bodies;
-mod members;
-mod sent;
-mod walk;
