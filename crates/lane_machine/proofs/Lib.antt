@@ -1,0 +1,11 @@
+mod BlockLemmas
+mod Blocks
+mod ClearLemmas
+mod ExactLemmas
+mod GatherLemmas
+mod GiftLemmas
+mod RunLemmas
+mod ShiftLemmas
+mod StepLemmas
+mod TotalLemmas
+mod Underway
