@@ -1,0 +1,3 @@
+mod IntervalLemmas
+mod ProductLemmas
+mod SumLemmas
