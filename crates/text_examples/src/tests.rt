@@ -3,6 +3,7 @@ ghost use Rattle.kern_tree.specs.Parsed.{IsParsed};
 
 mod decks;
 mod dumps;
+mod lanes;
 mod moves;
 mod pairs;
 mod parsing;
